@@ -1,0 +1,30 @@
+-- Lower-case hex: two digits to a byte, the higher first.
+use mathlib.Core.List.{List, [], _∷_}
+use mathlib.Core.Bool.{Bool, true, false, cond, _&&_}
+use Prim.Native.Nat.{ℕ, _+_, _-_, _*_}
+use lib.ListN.{length}
+use lib.Dec.{leb, ltb, eqb}
+use Rattle.base.specs.Bytes.{Bytes, isDigit}
+
+-- the value of a digit, or 16 where the byte is none
+unfoldable pub digitOf : ℕ → ℕ
+digitOf b = cond (isDigit b) (b - 48) (cond (leb 97 b && leb b 102) (b - 87) 16)
+
+-- every byte is a digit
+unfoldable pub allHex : Bytes → Bool
+allHex [] = true
+allHex (b ∷ s) = ltb (digitOf b) 16 && allHex s
+
+-- exactly n bytes, as 2 n digits
+unfoldable pub isHex : ℕ → Bytes → Bool
+isHex n s = eqb (length s) (n * 2) && allHex s
+
+-- the bytes that pairs of digits stand for; a last single digit is dropped
+unfoldable pub undo : Bytes → Bytes
+undo [] = []
+undo (a ∷ []) = []
+undo (a ∷ (b ∷ s)) = (digitOf a * 16 + digitOf b) ∷ undo s
+
+-- n bytes undone from s, or those of `other` where s is anything else
+unfoldable pub hexOr : Bytes → ℕ → Bytes → Bytes
+hexOr other n s = cond (isHex n s) (undo s) other
