@@ -1,0 +1,5 @@
+pub mod TestLaws
+pub mod PlaceLaws
+pub mod ByteLaws
+pub mod WindowLaws
+pub mod HexLaws
