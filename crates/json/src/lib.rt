@@ -231,7 +231,7 @@ pub enum Char {
     Byte(u8, usize),
 }
 
-fn char_at(s: &[u8], i: usize) -> Char
+pub fn char_at(s: &[u8], i: usize) -> Char
     ensures { λ r. ⌜ CharAt (now (s .entry)) i r ⌝ }
 {
     if s.len() <= i {
