@@ -1,0 +1,14 @@
+//! Runs `replay` and `paper` side by side.
+//!
+//! Every group of inputs is one script. A thread writes it to replay's standard input and notes what paper says to each
+//! line; the answers are compared as they come back. Nothing that replay says ever becomes what is expected of it.
+//!
+//! To let another call join: a case of [`calls::Call`], its line and paper's answer there, and a module of inputs under
+//! [`groups`].
+
+pub mod calls;
+pub mod child;
+pub mod compare;
+pub mod groups;
+pub mod options;
+pub mod random;
