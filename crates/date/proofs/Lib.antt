@@ -1,0 +1,5 @@
+pub mod Quotients
+pub mod Differences
+pub mod FormLaws
+pub mod CalendarLaws
+pub mod Examples
