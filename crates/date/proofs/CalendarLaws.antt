@@ -1,13 +1,12 @@
 -- The calendar's sums in closed form, and its definitions by cases.
 use Prim.Native.Nat.{ℕ, zero, suc, _+_, _-_, _*_, _/_, _%_, _≤_, _<_}
-use mathlib.Core.Path.{_≡_, refl, sym, _∙_, ap}
+use mathlib.Core.Path.{_≡_, refl, _∙_, ap}
 use mathlib.Core.Bool.{Bool, true, false, cond, not, _&&_, _||_, false≢true, and-false}
 use mathlib.Core.Logic.{_⊎_, inl, inr}
 use mathlib.Core.Option.{none, some}
 use native.Mathlib.Omega.{arith}
 use borrow.Author.Tests.{eqb-true, lt-leb, le-leb, eq-eqb, ne-eqb}
 use lib.Dec.{eqb}
-use lib.IntN.{ℤ}
 use Rattle.base.specs.Bytes.{Bytes}
 use Rattle.date.specs.Calendar.{isLeap, monthDays, yearsBefore, firstMonths, dayNumber, secondNumber, hasForm, form, twoDigits, civilTime, timeOf, dateOf}
 use Rattle.date.specs.Parts.{Civil}

@@ -5,10 +5,10 @@ use mathlib.Core.Path.{_≡_, refl, sym, _∙_, ap}
 use mathlib.Core.Bool.{Bool, true, false, true≢false}
 use native.Mathlib.Omega.{arith}
 use native.Mathlib.Nat.{add-mul, mul-add-div-right, div-le-self, lt-of-le-of-lt}
-use borrow.Author.Tests.{ltb-true, ltb-false, lt-ltb, le-ltb}
+use borrow.Author.Tests.{ltb-true, ltb-false, lt-ltb, le-ltb, le-leb}
 use lib.Dec.{ltb}
 use lib.IntN.{ℤ, pos, negsuc, negℤ, subℕ, _+ℤ_, _-ℤ_, _*ℤ_}
-use lib.Signed.{mag, ltZ}
+use lib.Signed.{mag, ltZ, leZ}
 use mir.Syntax.{w64}
 use mir.Val.{SFits, toZ, ofZ}
 use mir.Facts.{toZ-ofZ, toZ-pos}
@@ -82,6 +82,15 @@ sub-floor m x k p = by (sign x (k * m))
     by (above n h) =
         rw (is-pos x (k * m) n h) (sym (is-pos (x / m) k (n / m) (ap (λ (t : ℕ). t / m) h ∙ mul-add-div-right p k n)))
     by (below n h) = rw (is-neg x (k * m) n h) (sym (is-neg (x / m) k (n / m) (complement m p x n k h)))
+
+pub sub-leZ : (x u y : ℕ) → x ≤ u → leZ (subℕ x y) (subℕ u y) ≡ true
+sub-leZ x u y l = by (sign x y) (sign u y)
+  where
+    by : Sign x y → Sign u y → leZ (subℕ x y) (subℕ u y) ≡ true
+    by (above n h) (above k t) = rw (is-pos x y n h, is-pos u y k t) (le-leb n k (omega arith))
+    by (above n h) (below k t) = absurd (omega arith)
+    by (below n h) (above k t) = rw (is-neg x y n h, is-pos u y k t)
+    by (below n h) (below k t) = rw (is-neg x y n h, is-neg u y k t) (le-leb k n (omega arith))
 
 -- ## The two signs of a divisor's dividend
 

@@ -10,7 +10,7 @@ use borrow.Author.Tests.{eq-eqb, ne-eqb, not-false}
 use Rattle.base.specs.Bytes.{Bytes, isDigit}
 use Rattle.base.proofs.TestLaws.{never, both}
 use Rattle.base.proofs.PlaceLaws.{at-cons, at-end}
-use Rattle.base.proofs.ByteLaws.{digit, digit-low, digit-high, digit-range}
+use Rattle.base.proofs.ByteLaws.{digit-range}
 use Rattle.date.specs.Calendar.{fits, hasForm, form}
 use Rattle.date.specs.Parts.{DigitsAt}
 
@@ -33,6 +33,13 @@ form-lengths [] [] h = absurd (h refl)
 form-lengths [] (b ∷ s) h = refl
 form-lengths (f ∷ fs) [] h = refl
 form-lengths (f ∷ fs) (b ∷ s) h = rw (form-lengths fs s (λ e. h (ap suc e)), and-false)
+
+pub form-length : (fs s : Bytes) → hasForm fs s ≡ true → length fs ≡ length s
+unfolding hasForm
+form-length [] [] h = refl
+form-length [] (b ∷ s) h = never (sym h)
+form-length (f ∷ fs) [] h = never (sym h)
+form-length (f ∷ fs) (b ∷ s) h = ap suc (form-length fs s (both (fits f b) (hasForm fs s) h .1))
 
 module _ (fs s : Bytes) (i : ℕ) where
   pub form-apart : i < length fs → i < length s → fits (getD fs i 0) (getD s i 0) ≡ false → hasForm (drop i fs) (drop i s) ≡ false

@@ -3,3 +3,4 @@ pub mod Differences
 pub mod FormLaws
 pub mod CalendarLaws
 pub mod Examples
+pub mod DateLaws

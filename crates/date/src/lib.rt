@@ -8,6 +8,9 @@ ghost use Rattle.date.specs.Calendar.{fits as fitsForm, expired as expir
 ghost use Rattle.date.specs.Parts.{DigitsAt, Civil, floorDiv};
 ghost use Rattle.date.specs.View.{viewDate};
 
+// The seconds of a day.
+const DAY: i64 = 86400;
+
 // A count of seconds from 1970-01-01T00:00:00Z.
 pub struct Time {
     pub seconds: i64,
@@ -145,7 +148,7 @@ fn civil_seconds(year: u64, month: u64, day: u64, hour: u64, minute: u64, second
 {
     let days = months_before(year, month) + (day - 1);
     let passed = ((days * 24 + hour) * 60 + minute) * 60 + second;
-    year_start(year) * 86400 + (passed as i64)
+    year_start(year) * DAY + (passed as i64)
 }
 
 // The date of these numbers, if there is one.

@@ -1,6 +1,6 @@
 -- `civil_seconds` is the year's part and what has passed of the year.
-use Prim.Native.Nat.{ℕ, _≤_, _<_, _^_, _+_, _-_, _*_}
-use mathlib.Core.Path.{_≡_, _∙_, sym}
+use Prim.Native.Nat.{ℕ, _≤_, _+_, _-_, _*_}
+use mathlib.Core.Path.{_≡_, _∙_}
 use native.Mathlib.Omega.{arith}
 use lib.IntN.{ℤ, pos, _-ℤ_, _+ℤ_, _*ℤ_}
 use mir.Syntax.{w64}

@@ -1,6 +1,5 @@
 -- `fits` is the test of one byte against the form's.
 use mathlib.Core.Path.{_∙_, sym}
-use mathlib.Core.Bool.{true-and}
 use borrow.Author.Tests.{le-leb}
 use Rattle.base.proofs.ByteLaws.{digit-low}
 use Rattle.date.proofs.FormLaws.{fits-itself, fits-digit}

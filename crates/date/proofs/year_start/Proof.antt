@@ -1,10 +1,10 @@
 -- `year_start` is the sum over the years in closed form, by division that rounds down.
-use Prim.Native.Nat.{ℕ, _≤_, _<_, _^_, _+_, _*_, _/_}
-use mathlib.Core.Path.{_≡_, _∙_, sym}
+use Prim.Native.Nat.{ℕ, _≤_, _<_, _^_, _+_, _-_, _*_, _/_}
+use mathlib.Core.Path.{_≡_, refl, _∙_}
 use native.Mathlib.Omega.{arith}
 use lib.IntN.{ℤ, pos, _-ℤ_, _+ℤ_, _*ℤ_}
 use mir.Syntax.{w64}
-use mir.Val.{toZ}
+use mir.Val.{SFits, toZ}
 use borrow.Author.Needs.{needs}
 use Rattle.date.specs.Calendar.{yearsBefore}
 use Rattle.date.specs.Parts.{floorDiv}
@@ -24,20 +24,28 @@ module _ (y : ℕ) (h : y ≤ 9999) where
   later : (k X Y : ℕ) → y + k + Y ≡ X + 1970 → X < 2 ^ 63 → Y < 2 ^ 63 → Fits (W n +ℤ pos k) X Y
   later k X Y e p q = plus (bits n-is) (literal k) X Y (omega arith) p q
 
+  later-fits : (k : ℕ) → k < 1000 → SFits w64 (W n +ℤ pos k)
+  later-fits k p = fits (later k (y + k) 1970 (omega arith) (omega arith) (omega arith))
+
+  -- the three quotients: shifted by a, they are those of `years-closed`, less k
+  quotient : (m k a : ℕ) {f : ℤ} → 0 < m → m < 1000 → k < 1000 → 1970 + (m - 1) ≡ a + k * m → f ≡ floorDiv (W (W n +ℤ pos a)) m
+      → Fits f ((y + (m - 1)) / m) k
+  quotient m k a p q r e t = floor m k p (bits (later a (y + (m - 1)) (k * m) (omega arith) (omega arith) (omega arith))) t (omega arith) (omega arith)
+
   days : Fits (W n *ℤ pos 365) (y * 365) 719050
   days = times (bits n-is) 365 (omega arith) (omega arith)
 
-  -- with the three quotients
+  -- the sum, with the three quotients
   module _ {f g k : ℤ} (e : f ≡ floorDiv (W (W n +ℤ pos 1)) 4) (e′ : g ≡ floorDiv (W (W n +ℤ pos 69)) 100)
       (e″ : k ≡ floorDiv (W (W n +ℤ pos 369)) 400) where
     fours : Fits f ((y + 3) / 4) 493
-    fours = floor 4 493 (omega arith) (bits (later 1 (y + 3) 1972 (omega arith) (omega arith) (omega arith))) e (omega arith) (omega arith)
+    fours = quotient 4 493 1 (omega arith) (omega arith) (omega arith) refl e
 
     hundreds : Fits g ((y + 99) / 100) 20
-    hundreds = floor 100 20 (omega arith) (bits (later 69 (y + 99) 2000 (omega arith) (omega arith) (omega arith))) e′ (omega arith) (omega arith)
+    hundreds = quotient 100 20 69 (omega arith) (omega arith) (omega arith) refl e′
 
     four-hundreds : Fits k ((y + 399) / 400) 5
-    four-hundreds = floor 400 5 (omega arith) (bits (later 369 (y + 399) 2000 (omega arith) (omega arith) (omega arith))) e″ (omega arith) (omega arith)
+    four-hundreds = quotient 400 5 369 (omega arith) (omega arith) (omega arith) refl e″
 
     one : Fits (W (W n *ℤ pos 365) +ℤ W f) (y * 365 + (y + 3) / 4) 719543
     one = plus (bits days) (bits fours) _ _ (omega arith) (omega arith) (omega arith)
@@ -58,19 +66,19 @@ sub-n : tie.Need-sub-n
 sub-n c = fits (n-is (c .args .year) (c .pre))
 
 add-floor-div : tie.Need-add-floor-div
-add-floor-div c = fits (later (c .args .year) (c .pre) 1 (c .args .year + 1) 1970 (omega arith) (omega arith) (omega arith))
+add-floor-div c = later-fits (c .args .year) (c .pre) 1 (omega arith)
 
 floor-div-requires : tie.Need-floor-div-requires
 floor-div-requires c κs = search needs
 
 add-floor-div-2 : tie.Need-add-floor-div-2
-add-floor-div-2 c = let s = c .before in fits (later (s .args .year) (s .pre) 69 (s .args .year + 69) 1970 (omega arith) (omega arith) (omega arith))
+add-floor-div-2 c = later-fits (c .before .args .year) (c .before .pre) 69 (omega arith)
 
 floor-div-requires-2 : tie.Need-floor-div-requires-2
 floor-div-requires-2 c κs = search needs
 
 add-floor-div-3 : tie.Need-add-floor-div-3
-add-floor-div-3 c = let s = c .before .before in fits (later (s .args .year) (s .pre) 369 (s .args .year + 369) 1970 (omega arith) (omega arith) (omega arith))
+add-floor-div-3 c = later-fits (c .before .before .args .year) (c .before .before .pre) 369 (omega arith)
 
 floor-div-requires-3 : tie.Need-floor-div-requires-3
 floor-div-requires-3 c κs = search needs
