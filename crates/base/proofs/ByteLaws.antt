@@ -1,11 +1,10 @@
 -- Equality of byte strings: as a test, and one turn of a loop that compares.
 use mathlib.Core.Path.{_≡_, refl, sym, ap, _∙_}
 use mathlib.Core.List.{[], _∷_}
-use mathlib.Core.Bool.{Bool, true, false, _&&_, and-false}
+use mathlib.Core.Bool.{true, false, and-false}
 use Prim.Native.Nat.{ℕ, suc, _≤_, _<_, _+_}
 use lib.Dec.{eqb, leb}
 use lib.ListN.{length, drop, getD}
-use native.Mathlib.Omega.{arith}
 use borrow.Author.Tests.{eq-eqb, ne-eqb, eqb-true, le-leb, lt-leb, leb-true}
 use Rattle.base.specs.Bytes.{Bytes, same, isDigit}
 use Rattle.base.proofs.TestLaws.{never, both}

@@ -1,6 +1,7 @@
 -- Lower-case hex: two digits to a byte, the higher first.
-use mathlib.Core.List.{List, [], _∷_}
-use mathlib.Core.Bool.{Bool, true, false, cond, _&&_}
+use mathlib.Core.Path.{_≡_}
+use mathlib.Core.List.{[], _∷_}
+use mathlib.Core.Bool.{Bool, true, cond, _&&_}
 use Prim.Native.Nat.{ℕ, _+_, _-_, _*_}
 use lib.ListN.{length}
 use lib.Dec.{leb, ltb, eqb}
@@ -25,6 +26,7 @@ undo [] = []
 undo (a ∷ []) = []
 undo (a ∷ (b ∷ s)) = (digitOf a * 16 + digitOf b) ∷ undo s
 
--- n bytes undone from s, or those of `other` where s is anything else
-unfoldable pub hexOr : Bytes → ℕ → Bytes → Bytes
-hexOr other n s = cond (isHex n s) (undo s) other
+-- Digits s are undone into a buffer: refused, and the buffer as before, unless they are exactly as many bytes as it has.
+pub record Undone (s before : Bytes) (accepted : Bool) (after : Bytes) : Type 0 where
+  pub answer : accepted ≡ isHex (length before) s
+  pub buffer : after ≡ cond accepted (undo s) before

@@ -10,9 +10,9 @@ run f i zero = []
 run f i (suc n) = f i ∷ run f (i + 1) n
 
 -- the byte at place i, 0 past the end
-abbrev pub byteAt : Bytes → ℕ → ℕ
+unfoldable pub byteAt : Bytes → ℕ → ℕ
 byteAt a i = getD a i 0
 
 -- the n bytes from place i on
-abbrev pub window : Bytes → ℕ → ℕ → Bytes
+unfoldable pub window : Bytes → ℕ → ℕ → Bytes
 window a i n = run (byteAt a) i n

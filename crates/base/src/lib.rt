@@ -4,7 +4,18 @@ ghost use Prim.Native.Nat.{_+_, _*_, _≤_, _<_};
 ghost use lib.ListN.{length, replicate};
 ghost use Rattle.base.specs.Bytes.{same as sameOf};
 ghost use Rattle.base.specs.Window.{byteAt, window};
-ghost use Rattle.base.specs.Hex.{digitOf, isHex, hexOr};
+ghost use Rattle.base.specs.Hex.{digitOf, allHex, isHex, Undone};
+
+// Bytes undone from hex; zeros where they were refused.
+pub struct Bytes32 {
+    pub ok: bool,
+    pub bytes: [u8; 32],
+}
+
+pub struct Bytes64 {
+    pub ok: bool,
+    pub bytes: [u8; 64],
+}
 
 // Whether a and b are the same bytes.
 pub fn same(a: &[u8], b: &[u8]) -> bool
@@ -32,4 +43,93 @@ pub fn hex_digit(b: u8) -> u8
         97..=102 => b - 87,
         _ => 16,
     }
+}
+
+// The byte k places after i, 0 past the end.
+fn byte_after(a: &[u8], i: usize, k: usize) -> u8
+    ensures { λ r. ⌜ r ≡ byteAt (now (a .entry)) (i + k) ⌝ }
+{
+    if a.len() <= i {
+        return 0;
+    }
+    if a.len() - i <= k {
+        return 0;
+    }
+    a[i + k]
+}
+
+// Whether the n bytes of a from i on are the n bytes of b from j on.
+pub fn same_window(a: &[u8], i: usize, b: &[u8], j: usize, n: usize) -> bool
+    ensures { λ r. ⌜ r ≡ sameOf (window (now (a .entry)) i n) (window (now (b .entry)) j n) ⌝ }
+{
+    let mut k = 0;
+    while k < n {
+        if byte_after(a, i, k) != byte_after(b, j, k) {
+            return false;
+        }
+        k += 1;
+    }
+    true
+}
+
+// Whether every byte of s is a lower-case hex digit.
+fn all_hex(s: &[u8]) -> bool
+    ensures { λ r. ⌜ r ≡ allHex (now (s .entry)) ⌝ }
+{
+    let mut i = 0;
+    while i < s.len() {
+        if 15 < hex_digit(s[i]) {
+            return false;
+        }
+        i += 1;
+    }
+    true
+}
+
+// Whether s is n bytes in hex.
+fn is_hex(s: &[u8], n: usize) -> bool
+    ensures { λ r. ⌜ r ≡ isHex n (now (s .entry)) ⌝ }
+{
+    if s.len() % 2 != 0 {
+        return false;
+    }
+    if s.len() / 2 != n {
+        return false;
+    }
+    all_hex(s)
+}
+
+// Undoes hex into the whole of `out`, two digits to a byte. Where s is not exactly that many digits, `out` stays as it is.
+pub fn undo_hex(s: &[u8], out: &mut [u8]) -> bool
+    ensures { λ r. ⌜ Undone (now (s .entry)) (now (out .entry)) r (now (out .exit)) ⌝ }
+{
+    if !is_hex(s, out.len()) {
+        return false;
+    }
+    let mut i: usize = 0;
+    while i < out.len() {
+        let hi = hex_digit(s[i * 2]);
+        let lo = hex_digit(s[i * 2 + 1]);
+        out[i] = hi * 16 + lo;
+        i += 1;
+    }
+    true
+}
+
+// 64 digits undone.
+pub fn hex32(s: &[u8]) -> Bytes32
+    ensures { λ r. ⌜ Undone (now (s .entry)) (replicate 32 0) (r .ok) (r .bytes) ⌝ }
+{
+    let mut bytes = [0u8; 32];
+    let ok = undo_hex(s, &mut bytes);
+    Bytes32 { ok, bytes }
+}
+
+// 128 digits undone.
+pub fn hex64(s: &[u8]) -> Bytes64
+    ensures { λ r. ⌜ Undone (now (s .entry)) (replicate 64 0) (r .ok) (r .bytes) ⌝ }
+{
+    let mut bytes = [0u8; 64];
+    let ok = undo_hex(s, &mut bytes);
+    Bytes64 { ok, bytes }
 }

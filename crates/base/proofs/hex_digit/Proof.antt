@@ -1,32 +1,25 @@
+-- `hex_digit`: one law for each range of bytes.
 use native.Mathlib.Omega.{arith}
 use Rattle.base.proofs.HexLaws.{decimal, letter, below, between, above}
 use borrow.Author.Needs.{needs}
 use Rattle.base.proofs.hex_digit.Statement.{statement}
 use Rattle.base.proofs.hex_digit.Tie as tie
-use Rattle.base.proofs.hex_digit.Reads as reads
-use Rattle.base.proofs.hex_digit.Lts as lts
 
--- src/lib.rt:71:21
 sub-result : tie.Need-sub-result
 sub-result c = search needs
 
--- src/lib.rt:66:1
 returns : tie.Need-returns
 returns c = decimal _ (omega arith) (omega arith)
 
--- src/lib.rt:66:1
 returns-2 : tie.Need-returns-2
 returns-2 c = letter _ (omega arith) (omega arith)
 
--- src/lib.rt:66:1
 returns-3 : tie.Need-returns-3
 returns-3 c = below _ (omega arith)
 
--- src/lib.rt:66:1
 returns-4 : tie.Need-returns-4
 returns-4 c = between _ (omega arith) (omega arith)
 
--- src/lib.rt:66:1
 returns-5 : tie.Need-returns-5
 returns-5 c = above _ (omega arith)
 

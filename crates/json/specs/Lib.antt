@@ -1,0 +1,6 @@
+pub mod Json
+pub mod Read
+pub mod Names
+pub mod Rfc3629
+pub mod Lead
+pub mod Fields

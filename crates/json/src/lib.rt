@@ -1,0 +1,459 @@
+// Canonical JSON text (01, "Text"): is a text canonical, and where does a value in it end.
+ghost use mathlib.Core.Path.{_≡_};
+ghost use mathlib.Core.Bool.{true};
+ghost use mathlib.Core.Logic.{_↔_};
+ghost use Prim.Native.Nat.{_+_, _≤_, _<_};
+ghost use lib.ListN.{length, drop};
+ghost use Rattle.base.specs.Bytes.{less};
+ghost use Rattle.json.specs.Lead.{leadOf};
+ghost use Rattle.json.specs.Read.{endOf, readStr, kindOf, word as wordOf, number as numberOf, array as arrayOf, object as objectOf, member as memberOf, rises, read, raw};
+ghost use Rattle.json.specs.Names.{CharAt, lastOf};
+ghost use Rattle.json.specs.Json.{Canonical, maxDepth};
+
+// How deep objects and arrays may hold one another.
+pub const MAX_DEPTH: u8 = 8;
+
+// What a lead byte begins.
+pub enum LeadByte {
+    Bad,
+    Seq { more: u8, lo: u8, hi: u8 },
+}
+
+// RFC 3629, section 4: how many bytes follow the lead byte, and the range of the second.
+pub fn lead(b: u8) -> LeadByte
+    ensures { λ r. ⌜ r ≡ leadOf b ⌝ }
+{
+    match b {
+        0..=31 => LeadByte::Bad,
+        32..=127 => LeadByte::Seq {
+            more: 0,
+            lo: 0,
+            hi: 0,
+        },
+        128..=193 => LeadByte::Bad,
+        194..=223 => LeadByte::Seq {
+            more: 1,
+            lo: 128,
+            hi: 191,
+        },
+        224 => LeadByte::Seq {
+            more: 2,
+            lo: 160,
+            hi: 191,
+        },
+        225..=236 => LeadByte::Seq {
+            more: 2,
+            lo: 128,
+            hi: 191,
+        },
+        237 => LeadByte::Seq {
+            more: 2,
+            lo: 128,
+            hi: 159,
+        },
+        238..=239 => LeadByte::Seq {
+            more: 2,
+            lo: 128,
+            hi: 191,
+        },
+        240 => LeadByte::Seq {
+            more: 3,
+            lo: 144,
+            hi: 191,
+        },
+        241..=243 => LeadByte::Seq {
+            more: 3,
+            lo: 128,
+            hi: 191,
+        },
+        244 => LeadByte::Seq {
+            more: 3,
+            lo: 128,
+            hi: 143,
+        },
+        _ => LeadByte::Bad,
+    }
+}
+
+// Where what was read ends, or that it is refused.
+pub enum Skip {
+    No,
+    End(usize),
+}
+
+// The string whose opening quote stands just before `at`.
+pub fn string(s: &[u8], at: usize) -> Skip
+    ensures { λ r. ⌜ r ≡ endOf (length (now (s .entry))) (readStr (drop at (now (s .entry)))) ⌝ }
+{
+    let mut i = at;
+    let mut more: u8 = 0;
+    let mut lo: u8 = 0;
+    let mut hi: u8 = 0;
+    while i < s.len() {
+        let b = s[i];
+        if more == 0 {
+            if b == 34 {
+                return Skip::End(i + 1);
+            }
+            if b == 92 {
+                let j = i + 1;
+                if s.len() <= j {
+                    return Skip::No;
+                }
+                let c = s[j];
+                if c != 34 {
+                    if c != 92 {
+                        return Skip::No;
+                    }
+                }
+                i = j + 1;
+                lo = 0;
+                hi = 0;
+                continue;
+            }
+            match lead(b) {
+                LeadByte::Bad => {
+                    return Skip::No;
+                }
+                LeadByte::Seq {
+                    more: m,
+                    lo: l,
+                    hi: h,
+                } => {
+                    more = m;
+                    lo = l;
+                    hi = h;
+                    i += 1;
+                    continue;
+                }
+            }
+        }
+        if b < lo {
+            return Skip::No;
+        }
+        if hi < b {
+            return Skip::No;
+        }
+        more -= 1;
+        lo = 128;
+        hi = 191;
+        i += 1;
+    }
+    Skip::No
+}
+
+pub enum Kind {
+    Text,
+    Minus,
+    Digit,
+    Array,
+    Object,
+    True,
+    False,
+    Null,
+    Other,
+}
+
+// What a value is, by its first byte.
+fn kind_of(b: u8) -> Kind
+    ensures { λ r. ⌜ r ≡ kindOf b ⌝ }
+{
+    match b {
+        34 => Kind::Text,
+        45 => Kind::Minus,
+        91 => Kind::Array,
+        102 => Kind::False,
+        110 => Kind::Null,
+        116 => Kind::True,
+        123 => Kind::Object,
+        48..=57 => Kind::Digit,
+        _ => Kind::Other,
+    }
+}
+
+// The digits of a number, after its minus where there is one.
+fn number(s: &[u8], at: usize, neg: bool) -> Skip
+    ensures { λ r. ⌜ r ≡ endOf (length (now (s .entry))) (numberOf neg (drop at (now (s .entry)))) ⌝ }
+{
+    if s.len() <= at {
+        return Skip::No;
+    }
+    let b = s[at];
+    if b == 48 {
+        if neg {
+            return Skip::No;
+        }
+        return Skip::End(at + 1);
+    }
+    if b < 48 {
+        return Skip::No;
+    }
+    if 57 < b {
+        return Skip::No;
+    }
+    let mut i = at + 1;
+    while i < s.len() {
+        let c = s[i];
+        if c < 48 {
+            return Skip::End(i);
+        }
+        if 57 < c {
+            return Skip::End(i);
+        }
+        i += 1;
+    }
+    Skip::End(i)
+}
+
+// The bytes w stand at `at`.
+fn word(s: &[u8], at: usize, w: &[u8]) -> Skip
+    requires { ⌜ at ≤ length (now s) ⌝ }
+    ensures { λ r. ⌜ r ≡ endOf (length (now (s .entry))) (wordOf (now (w .entry)) (drop at (now (s .entry)))) ⌝ }
+{
+    let mut i = at;
+    let mut k = 0;
+    while k < w.len() {
+        if s.len() <= i {
+            return Skip::No;
+        }
+        if s[i] != w[k] {
+            return Skip::No;
+        }
+        i += 1;
+        k += 1;
+    }
+    Skip::End(i)
+}
+
+// One byte of a name in the text, escapes undone, and where the next stands.
+pub enum Char {
+    Close,
+    Byte(u8, usize),
+}
+
+pub fn char_at(s: &[u8], i: usize) -> Char
+    ensures { λ r. ⌜ CharAt (now (s .entry)) i r ⌝ }
+{
+    if s.len() <= i {
+        return Char::Close;
+    }
+    let b = s[i];
+    if b == 34 {
+        return Char::Close;
+    }
+    let j = i + 1;
+    if b == 92 {
+        if s.len() <= j {
+            return Char::Close;
+        }
+        return Char::Byte(s[j], j + 1);
+    }
+    Char::Byte(b, j)
+}
+
+// The name at a is less than the name at b: byte by byte, a shorter prefix first.
+fn name_less(s: &[u8], a: usize, b: usize) -> bool
+    ensures { λ r. ⌜ r ≡ less (raw (drop a (now (s .entry)))) (raw (drop b (now (s .entry)))) ⌝ }
+{
+    let mut i = a;
+    let mut j = b;
+    loop {
+        match char_at(s, j) {
+            Char::Close => {
+                return false;
+            }
+            Char::Byte(y, jj) => match char_at(s, i) {
+                Char::Close => {
+                    return true;
+                }
+                Char::Byte(x, ii) => {
+                    if x != y {
+                        return x < y;
+                    }
+                    i = ii;
+                    j = jj;
+                }
+            },
+        }
+    }
+}
+
+// Where the name before a member stands, just past its opening quote.
+pub enum Last {
+    Nothing,
+    Name(usize),
+}
+
+// The name at k follows the one before.
+fn in_order(s: &[u8], last: Last, k: usize) -> bool
+    ensures { λ r. ⌜ r ≡ rises (lastOf (now (s .entry)) last) (raw (drop k (now (s .entry)))) ⌝ }
+{
+    match last {
+        Last::Nothing => {
+            return true;
+        }
+        Last::Name(p) => {
+            return name_less(s, p, k);
+        }
+    }
+}
+
+// The value at `at`; objects and arrays may hold one another `depth` deep.
+pub fn value(s: &[u8], at: usize, depth: u8) -> Skip
+    ensures { λ r. ⌜ r ≡ endOf (length (now (s .entry))) (read depth (drop at (now (s .entry)))) ⌝ }
+{
+    if s.len() <= at {
+        return Skip::No;
+    }
+    let b = s[at];
+    let next = at + 1;
+    match kind_of(b) {
+        Kind::Text => {
+            return string(s, next);
+        }
+        Kind::Minus => {
+            return number(s, next, true);
+        }
+        Kind::Digit => {
+            return number(s, at, false);
+        }
+        Kind::Array => {
+            if depth == 0 {
+                return Skip::No;
+            }
+            return array(s, next, depth - 1);
+        }
+        Kind::Object => {
+            if depth == 0 {
+                return Skip::No;
+            }
+            return object(s, next, depth - 1);
+        }
+        Kind::True => {
+            return word(s, next, b"rue");
+        }
+        Kind::False => {
+            return word(s, next, b"alse");
+        }
+        Kind::Null => {
+            return word(s, next, b"ull");
+        }
+        Kind::Other => {
+            return Skip::No;
+        }
+    }
+}
+
+// The array whose opening bracket stands just before `at`; its elements may go `depth` deep.
+pub fn array(s: &[u8], at: usize, depth: u8) -> Skip
+    ensures { λ r. ⌜ r ≡ endOf (length (now (s .entry))) (arrayOf (read depth) (drop at (now (s .entry)))) ⌝ }
+{
+    if s.len() <= at {
+        return Skip::No;
+    }
+    if s[at] == 93 {
+        return Skip::End(at + 1);
+    }
+    let mut i = at;
+    while i < s.len() {
+        match value(s, i, depth) {
+            Skip::No => {
+                return Skip::No;
+            }
+            Skip::End(e) => {
+                if s.len() <= e {
+                    return Skip::No;
+                }
+                let c = s[e];
+                if c == 93 {
+                    return Skip::End(e + 1);
+                }
+                if c != 44 {
+                    return Skip::No;
+                }
+                i = e + 1;
+            }
+        }
+    }
+    Skip::No
+}
+
+// The member at i, whose name must follow the one before.
+fn pair(s: &[u8], i: usize, last: Last, depth: u8) -> Skip
+    ensures { λ r. ⌜ r ≡ endOf (length (now (s .entry))) (memberOf (read depth) (lastOf (now (s .entry)) last) (drop i (now (s .entry)))) ⌝ }
+{
+    if s.len() <= i {
+        return Skip::No;
+    }
+    if s[i] != 34 {
+        return Skip::No;
+    }
+    let k = i + 1;
+    match string(s, k) {
+        Skip::No => {
+            return Skip::No;
+        }
+        Skip::End(e) => {
+            if !in_order(s, last, k) {
+                return Skip::No;
+            }
+            if s.len() <= e {
+                return Skip::No;
+            }
+            if s[e] != 58 {
+                return Skip::No;
+            }
+            return value(s, e + 1, depth);
+        }
+    }
+}
+
+// The object whose opening brace stands just before `at`; its values may go `depth` deep.
+pub fn object(s: &[u8], at: usize, depth: u8) -> Skip
+    ensures { λ r. ⌜ r ≡ endOf (length (now (s .entry))) (objectOf (read depth) (drop at (now (s .entry)))) ⌝ }
+{
+    if s.len() <= at {
+        return Skip::No;
+    }
+    if s[at] == 125 {
+        return Skip::End(at + 1);
+    }
+    let mut i = at;
+    let mut last = Last::Nothing;
+    while i < s.len() {
+        match pair(s, i, last, depth) {
+            Skip::No => {
+                return Skip::No;
+            }
+            Skip::End(e) => {
+                if s.len() <= e {
+                    return Skip::No;
+                }
+                let c = s[e];
+                if c == 125 {
+                    return Skip::End(e + 1);
+                }
+                if c != 44 {
+                    return Skip::No;
+                }
+                last = Last::Name(i + 1);
+                i = e + 1;
+            }
+        }
+    }
+    Skip::No
+}
+
+// Whether the text is canonical.
+pub fn is_canonical(s: &[u8]) -> bool
+    ensures { λ r. ⌜ (r ≡ true) ↔ Canonical maxDepth (now (s .entry)) ⌝ }
+{
+    match value(s, 0, MAX_DEPTH) {
+        Skip::No => {
+            return false;
+        }
+        Skip::End(e) => {
+            return e == s.len();
+        }
+    }
+}
