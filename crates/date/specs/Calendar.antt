@@ -4,11 +4,11 @@ use Prim.Native.Nat.{ℕ, zero, suc, _+_, _-_, _*_, _%_}
 use mathlib.Core.Bool.{Bool, true, false, cond, not, _&&_, _||_}
 use mathlib.Core.List.{[], _∷_}
 use mathlib.Core.Option.{Option, none, some}
+use lib.ListN.{getD}
 use lib.Dec.{leb, eqb}
 use lib.IntN.{ℤ, pos, _-ℤ_}
 use lib.Signed.{leZ}
 use Rattle.base.specs.Bytes.{Bytes, bytes, isDigit}
-use Rattle.base.specs.Window.{byteAt}
 
 -- "`YYYY-MM-DDTHH:MM:SSZ`, exactly 20 bytes": each 0 stands for a digit, every other byte for itself
 abbrev pub form : Bytes
@@ -27,7 +27,7 @@ hasForm (f ∷ fs) (b ∷ s) = fits f b && hasForm fs s
 
 -- the number that the two digits from place i on write; four digits write "years 0000 to 9999"
 abbrev pub twoDigits : Bytes → ℕ → ℕ
-twoDigits s i = (byteAt s i - 48) * 10 + (byteAt s (i + 1) - 48)
+twoDigits s i = (getD s i 0 - 48) * 10 + (getD s (i + 1) 0 - 48)
 
 -- "Gregorian rules throughout": every fourth year is a leap year, but of the full hundreds only every fourth
 abbrev pub isLeap : ℕ → Bool

@@ -1,17 +1,16 @@
 -- What parts of the code compute or ask for, beside the definitions of 01.
 use Prim.Native.Nat.{ℕ, _+_, _/_, _≤_, _<_}
 use lib.IntN.{ℤ, pos, negsuc}
-use lib.ListN.{length}
+use lib.ListN.{length, getD}
 use Rattle.base.specs.Bytes.{Bytes}
-use Rattle.base.specs.Window.{byteAt}
 
 -- two digits stand at place i
 pub record DigitsAt (s : Bytes) (i : ℕ) : Type 0 where
   pub within : i + 1 < length s
-  pub low : 48 ≤ byteAt s i
-  pub high : byteAt s i ≤ 57
-  pub low-next : 48 ≤ byteAt s (i + 1)
-  pub high-next : byteAt s (i + 1) ≤ 57
+  pub low : 48 ≤ getD s i 0
+  pub high : getD s i 0 ≤ 57
+  pub low-next : 48 ≤ getD s (i + 1) 0
+  pub high-next : getD s (i + 1) 0 ≤ 57
 
 -- the numbers of a date, each within its range
 pub record Civil (year month day hour minute second : ℕ) : Type 0 where
