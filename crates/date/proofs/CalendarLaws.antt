@@ -8,7 +8,7 @@ use native.Mathlib.Omega.{arith}
 use borrow.Author.Tests.{eqb-true, lt-leb, le-leb, eq-eqb, ne-eqb}
 use lib.Dec.{eqb}
 use Rattle.base.specs.Bytes.{Bytes}
-use Rattle.date.specs.Calendar.{isLeap, monthDays, yearsBefore, firstMonths, dayNumber, secondNumber, hasForm, form, twoDigits, civilTime, timeOf, dateOf}
+use Rattle.date.specs.Calendar.{isLeap, monthDays, yearsBefore, firstMonths, dayNumber, secondNumber, epoch, hasForm, form, twoDigits, civilTime, timeOf, dateOf}
 use Rattle.date.specs.Parts.{Civil}
 use Rattle.date.proofs.Quotients.{rounded-up}
 
@@ -86,9 +86,9 @@ pub epoch-days : yearsBefore 1970 ≡ 719528
 unfolding yearsBefore
 epoch-days = refl
 
-pub epoch : secondNumber 1970 1 1 0 0 0 ≡ 62167219200
-unfolding secondNumber dayNumber yearsBefore firstMonths
-epoch = refl
+pub epoch-seconds : epoch ≡ 62167219200
+unfolding epoch secondNumber dayNumber yearsBefore firstMonths
+epoch-seconds = refl
 
 -- ## The numbers of a date, by cases
 

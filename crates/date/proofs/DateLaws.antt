@@ -10,10 +10,10 @@ use lib.IntN.{ℤ, pos, negℤ}
 use lib.Signed.{leZ}
 use Rattle.base.specs.Bytes.{Bytes, bytes}
 use Rattle.base.proofs.TestLaws.{both}
-use Rattle.date.specs.Calendar.{isLeap, yearDays, monthDays, isCivil, yearsBefore, firstMonths, dayNumber, secondNumber, timeOf, civilTime, fits, hasForm, form, twoDigits, dateOf}
+use Rattle.date.specs.Calendar.{isLeap, yearDays, monthDays, isCivil, yearsBefore, firstMonths, dayNumber, secondNumber, epoch, timeOf, civilTime, fits, hasForm, form, twoDigits, dateOf}
 use Rattle.date.proofs.Differences.{sub-leZ}
 use Rattle.date.proofs.FormLaws.{form-length, digits-at}
-use Rattle.date.proofs.CalendarLaws.{years-closed, months-next, epoch, no-form, date-form}
+use Rattle.date.proofs.CalendarLaws.{years-closed, months-next, epoch-seconds, no-form, date-form}
 
 -- ## The days of a year
 
@@ -80,7 +80,7 @@ time-within : (y m d h mi s : ℕ) → y ≤ 9999 → isCivil y m d h mi s ≡ t
 unfolding timeOf
 time-within y m d h mi s k e =
     let n = secondNumber y m d h mi s in
-    rw epoch (record { from = sub-leZ 0 n 62167219200 (omega arith); to = sub-leZ n 315569519999 62167219200 (last-second y m d h mi s k e) })
+    rw epoch-seconds (record { from = sub-leZ 0 n 62167219200 (omega arith); to = sub-leZ n 315569519999 62167219200 (last-second y m d h mi s k e) })
 
 civil-within : (y m d h mi s : ℕ) (z : ℤ) → y ≤ 9999 → civilTime y m d h mi s ≡ some z → Within z
 unfolding civilTime
@@ -106,9 +106,9 @@ pub date-within : (s : Bytes) (z : ℤ) → dateOf s ≡ some z → Within z
 date-within s z e = let f = formed s z e in civil-within _ _ _ _ _ _ z (year-most s f) (date-form s f ∙ e)
 
 pub first-date : dateOf (bytes "0000-01-01T00:00:00Z") ≡ some first
-unfolding fits hasForm dateOf civilTime timeOf secondNumber dayNumber yearsBefore firstMonths
+unfolding fits hasForm dateOf civilTime timeOf epoch secondNumber dayNumber yearsBefore firstMonths
 first-date = refl
 
 pub last-date : dateOf (bytes "9999-12-31T23:59:59Z") ≡ some last
-unfolding fits hasForm dateOf civilTime timeOf secondNumber dayNumber yearsBefore firstMonths
+unfolding fits hasForm dateOf civilTime timeOf epoch secondNumber dayNumber yearsBefore firstMonths
 last-date = refl

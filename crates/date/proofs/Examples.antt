@@ -5,7 +5,7 @@ use mathlib.Core.Option.{Option, none, some}
 use Prim.Native.String.{String}
 use lib.IntN.{ℤ, pos, negℤ}
 use Rattle.base.specs.Bytes.{bytes}
-use Rattle.date.specs.Calendar.{fits, hasForm, dateOf, civilTime, timeOf, secondNumber, dayNumber, yearsBefore, firstMonths}
+use Rattle.date.specs.Calendar.{fits, hasForm, dateOf, civilTime, timeOf, epoch, secondNumber, dayNumber, yearsBefore, firstMonths}
 
 pub record Example : Type 0 where
   pub text : String
@@ -22,5 +22,5 @@ table =
     ∷ []
 
 pub examples : map (λ (e : Example). dateOf (bytes (e .text))) table ≡ map (λ (e : Example). e .meaning) table
-unfolding fits hasForm dateOf civilTime timeOf secondNumber dayNumber yearsBefore firstMonths
+unfolding fits hasForm dateOf civilTime timeOf epoch secondNumber dayNumber yearsBefore firstMonths
 examples = refl

@@ -33,6 +33,7 @@ twoDigits s i = (getD s i 0 - 48) * 10 + (getD s (i + 1) 0 - 48)
 abbrev pub isLeap : ℕ → Bool
 isLeap year = eqb (year % 4) 0 && not (eqb (year % 100) 0) || eqb (year % 400) 0
 
+-- a leap year has one day more than 365
 abbrev pub yearDays : ℕ → ℕ
 yearDays year = cond (isLeap year) 366 365
 
@@ -67,11 +68,16 @@ unfoldable pub secondNumber : ℕ → ℕ → ℕ → ℕ → ℕ → ℕ → �
 secondNumber year month day hour minute second =
     ((dayNumber year month day * 24 + hour) * 60 + minute) * 60 + second
 
+-- 1970-01-01T00:00:00Z
+unfoldable pub epoch : ℕ
+epoch = secondNumber 1970 1 1 0 0 0
+
 -- "the count of seconds from 1970-01-01T00:00:00Z, and a date before 1970 is a count below zero"
 unfoldable pub timeOf : ℕ → ℕ → ℕ → ℕ → ℕ → ℕ → ℤ
 timeOf year month day hour minute second =
-    pos (secondNumber year month day hour minute second) -ℤ pos (secondNumber 1970 1 1 0 0 0)
+    pos (secondNumber year month day hour minute second) -ℤ pos epoch
 
+-- the count of six numbers that are a date, and nothing of any others
 unfoldable pub civilTime : ℕ → ℕ → ℕ → ℕ → ℕ → ℕ → Option ℤ
 civilTime year month day hour minute second =
     cond (isCivil year month day hour minute second) (some (timeOf year month day hour minute second)) none

@@ -94,6 +94,7 @@ fn leap_day(year: u64) -> u64
     0
 }
 
+// The days of a month.
 fn month_days(year: u64, month: u64) -> u64
     ensures { λ r. ⌜ r ≡ monthDays year month ⌝ }
 {

@@ -7,7 +7,7 @@ use mir.Syntax.{w64}
 use mir.Val.{toZ}
 use Rattle.date.specs.Calendar.{yearsBefore, firstMonths, dayNumber, secondNumber, timeOf}
 use Rattle.date.specs.Parts.{Civil}
-use Rattle.date.proofs.CalendarLaws.{years-closed, epoch-days, epoch}
+use Rattle.date.proofs.CalendarLaws.{years-closed, epoch-days, epoch-seconds}
 use Rattle.date.proofs.Differences.{W, Fits, fits, bits, nat, plus, times}
 use borrow.Author.Needs.{needs}
 use Rattle.date.proofs.civil_seconds.Statement.{statement}
@@ -30,7 +30,7 @@ module _ (y m d h mi s : ℕ) (p : Civil y m d h mi s) {z : ℤ} (e : z ≡ pos 
 
     total : W (W (W z *ℤ pos 86400) +ℤ toZ w64 passed) ≡ timeOf y m d h mi s
     unfolding timeOf
-    total = bits all .same ∙ rw epoch
+    total = bits all .same ∙ rw epoch-seconds
 
 months-before-requires : tie.Need-months-before-requires
 months-before-requires c κs = search needs
