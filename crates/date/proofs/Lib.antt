@@ -1,0 +1,6 @@
+pub mod Quotients
+pub mod Differences
+pub mod FormLaws
+pub mod CalendarLaws
+pub mod Examples
+pub mod DateLaws
