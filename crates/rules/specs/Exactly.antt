@@ -1,0 +1,119 @@
+-- For each call: all of its conditions, in 01's words ("Steps"). A call answers 0 exactly when they hold, and then the state is the one
+-- that is named here: the laws `.. -exactly` of the crate history.
+use mathlib.Core.Path.{_≡_}
+use mathlib.Core.Logic.{_↔_}
+use mathlib.Core.Bool.{true}
+use mathlib.Core.Option.{Option, some}
+use mathlib.Core.List.{List}
+use Prim.Native.Nat.{ℕ, _+_, _≤_, _<_}
+use lib.ListN.{length}
+use Rattle.base.specs.Bytes.{Bytes}
+use Rattle.base.specs.Hex.{isHex, undo}
+use Rattle.rules.specs.Limits.{maxPath, keySize}
+use Rattle.rules.specs.Records.{Key, Image, File, says}
+use Rattle.rules.specs.State.{Root, Timestamp, Snapshot, Targets, State, rootIn, timestampIn, snapshotIn, targetsIn, keepTargets, Install, RootOffer, TimestampOffer, FileOffer, Query}
+use Rattle.rules.specs.Conditions.{targetsEntry, imageOf, keyOf}
+use Rattle.rules.specs.Words.{GoodRow, GoodDigest, Enough, Expired, Keeps, Matches}
+
+-- ## Records that a step needs or leans on
+
+pub record HoldsRoot (s : State) : Type 0 where
+  pub root : Root
+  pub rootHeld : s .root ≡ some root
+
+-- held and not expired
+pub record LeansOnRoot (s : State) : Type 0 where
+  pub root : Root
+  pub rootHeld : s .root ≡ some root
+  pub rootFresh : ¬ Expired (root .expires) (s .start)
+
+pub record LeansOnTimestamp (s : State) : Type 0 where
+  pub onRoot : LeansOnRoot s
+  pub timestamp : Timestamp
+  pub timestampHeld : s .timestamp ≡ some timestamp
+  pub timestampFresh : ¬ Expired (timestamp .expires) (s .start)
+
+-- a current snapshot
+pub record LeansOnSnapshot (s : State) : Type 0 where
+  pub onTimestamp : LeansOnTimestamp s
+  pub snapshot : Snapshot
+  pub snapshotHeld : s .snapshot ≡ some snapshot
+  pub snapshotCurrent : snapshot .version ≡ onTimestamp .timestamp .snapshot .version
+  pub snapshotFresh : ¬ Expired (snapshot .expires) (s .start)
+
+-- current targets
+pub record LeansOnTargets (s : State) : Type 0 where
+  pub onSnapshot : LeansOnSnapshot s
+  pub targets : Targets
+  pub targetsHeld : s .targets ≡ some targets
+  pub targetsCurrent : targets .version ≡ targetsEntry (onSnapshot .snapshot) .version
+  pub targetsFresh : ¬ Expired (targets .expires) (s .start)
+
+-- ## The conditions of each call
+
+pub record InstallGood (o : Install) (r : Root) : Type 0 where
+  pub entries : List Bytes
+  pub reads : rootIn (o .file) ≡ says r entries
+  pub row : GoodRow entries (o .row)
+  pub ownKeys : Enough (r .rootRole) entries (o .row)
+
+pub record RootGood (s : State) (o : RootOffer) (r : Root) : Type 0 where
+  pub entries : List Bytes
+  pub reads : rootIn (o .file) ≡ says r entries
+  pub heldRow : GoodRow entries (o .heldRow)
+  pub ownRow : GoodRow entries (o .ownRow)
+  pub held : Root
+  pub isHeld : s .root ≡ some held
+  pub heldKeys : Enough (held .rootRole) entries (o .heldRow)
+  pub ownKeys : Enough (r .rootRole) entries (o .ownRow)
+  pub version : r .version ≡ held .version + 1
+
+pub record TimestampGood (s : State) (o : TimestampOffer) (t : Timestamp) : Type 0 where
+  pub entries : List Bytes
+  pub reads : timestampIn (o .file) ≡ says t entries
+  pub row : GoodRow entries (o .row)
+  pub on : LeansOnRoot s
+  pub keys : Enough (on .root .timestampRole) entries (o .row)
+  pub newer : (h : Timestamp) → s .timestamp ≡ some h → h .version < t .version
+  pub notLower : (h : Timestamp) → s .timestamp ≡ some h → h .snapshot .version ≤ t .snapshot .version
+  pub fresh : ¬ Expired (t .expires) (s .start)
+
+pub record SnapshotGood (s : State) (o : FileOffer) (n : Snapshot) : Type 0 where
+  pub entries : List Bytes
+  pub reads : snapshotIn (o .file) ≡ says n entries
+  pub row : GoodRow entries (o .row)
+  pub digest : GoodDigest (o .digest)
+  pub on : LeansOnTimestamp s
+  pub matches : Matches (on .timestamp .snapshot) (length (o .file)) (o .digest)
+  pub keys : Enough (on .onRoot .root .snapshotRole) entries (o .row)
+  pub version : n .version ≡ on .timestamp .snapshot .version
+  pub keeps : (h : Snapshot) → s .snapshot ≡ some h → Keeps (h .names) (n .names)
+  pub fresh : ¬ Expired (n .expires) (s .start)
+
+pub record TargetsGood (s : State) (o : FileOffer) (g : File (List Image)) : Type 0 where
+  pub entries : List Bytes
+  pub reads : targetsIn (o .file) ≡ says g entries
+  pub row : GoodRow entries (o .row)
+  pub digest : GoodDigest (o .digest)
+  pub on : LeansOnSnapshot s
+  pub matches : Matches (targetsEntry (on .snapshot)) (length (o .file)) (o .digest)
+  pub keys : Enough (on .onTimestamp .onRoot .root .targetsRole) entries (o .row)
+  pub version : g .version ≡ targetsEntry (on .snapshot) .version
+  pub fresh : ¬ Expired (g .expires) (s .start)
+
+pub record FindGood (s : State) (q : Query) (i : Image) : Type 0 where
+  pub file : File (List Image)
+  pub entries : List Bytes
+  pub reads : targetsIn (q .file) ≡ says file entries
+  pub digest : GoodDigest (q .digest)
+  pub on : LeansOnTargets s
+  pub kept : q .digest ≡ on .targets .digest
+  pub notEmpty : 1 ≤ length (q .path)
+  pub notLong : length (q .path) ≤ maxPath
+  pub listed : imageOf (q .path) (file .body) ≡ some i
+
+pub record KeyGood (s : State) (k : Bytes) (x : Key) : Type 0 where
+  pub root : Root
+  pub rootHeld : s .root ≡ some root
+  pub hex : isHex keySize k ≡ true
+  pub listed : keyOf (undo k) (root .keys) ≡ some x

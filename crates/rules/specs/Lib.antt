@@ -1,0 +1,13 @@
+pub mod Limits
+pub mod Take
+pub mod Records
+pub mod Forms
+pub mod Reading
+pub mod State
+pub mod Table
+pub mod Conditions
+pub mod Steps
+pub mod Asked
+pub mod Words
+pub mod Exactly
+pub mod History

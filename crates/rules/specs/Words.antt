@@ -1,0 +1,69 @@
+-- The paper's words as statements, apart from the tests that decide them.
+use mathlib.Core.Path.{_≡_}
+use mathlib.Core.Logic.{_↔_}
+use mathlib.Core.Option.{Option, some}
+use mathlib.Core.List.{List, [], _∷_, List·Memᴰ}
+use Prim.Native.Nat.{ℕ, _≤_}
+use lib.IntN.{ℤ}
+use lib.ListN.{length}
+use lib.Signed.{_≤ℤ_}
+use Rattle.base.specs.Bytes.{Bytes}
+use Rattle.rules.specs.Limits.{digestSize}
+use Rattle.rules.specs.Records.{Role, Listed, Named}
+use Rattle.rules.specs.State.{Row}
+use Rattle.rules.specs.Conditions.{listedAs}
+
+-- ## Refusal 5 does not hold
+
+-- as many verdicts as entries, each 0 or 1
+pub record GoodRow (entries : List Bytes) (row : Row) : Type 0 where
+  pub long : length row ≡ length entries
+  pub verdicts : (v : ℕ) → List·Memᴰ v row → v ≤ 1
+
+abbrev pub GoodDigest : Bytes → Type 0
+GoodDigest d = length d ≡ digestSize
+
+-- ## Keys
+
+-- "some entry with its keyid has verdict 1"
+pub data Signed (k : Bytes) : List Bytes → Row → Type 0 where
+  here : {es : List Bytes} {vs : Row} → Signed k (k ∷ es) (1 ∷ vs)
+  later : {e : Bytes} {es : List Bytes} {v : ℕ} {vs : Row} → Signed k es vs → Signed k (e ∷ es) (v ∷ vs)
+
+abbrev pub Different : List Bytes → Type 0
+Different [] = Unit {0}
+Different (k ∷ ks) = ¬ (List·Memᴰ k ks) × Different ks
+
+-- different keys that the role names and that signed
+pub record Signers (role : Role) (entries : List Bytes) (row : Row) (ks : List Bytes) : Type 0 where
+  pub different : Different ks
+  pub named : (k : Bytes) → List·Memᴰ k ks → List·Memᴰ k (role .keyids)
+  pub signed : (k : Bytes) → List·Memᴰ k ks → Signed k entries row
+
+-- "Enough keys: as many as the role's threshold count by the verdicts given"
+pub record Enough (role : Role) (entries : List Bytes) (row : Row) : Type 0 where
+  pub keys : List Bytes
+  pub signers : Signers role entries row keys
+  pub many : role .threshold ≤ length keys
+
+-- the role has the same set of keyids in both
+abbrev pub SameKeys : Role → Role → Type 0
+SameKeys old new = (k : Bytes) → List·Memᴰ k (old .keyids) ↔ List·Memᴰ k (new .keyids)
+
+-- ## Dates
+
+-- "expires is at or below the start time in force"
+abbrev pub Expired : ℤ → ℤ → Type 0
+Expired expires start = expires ≤ℤ start
+
+-- ## Lists
+
+-- every name of the first list is in the second, none lower
+abbrev pub Keeps : List Named → List Named → Type 0
+Keeps old new =
+    (n : Named) → List·Memᴰ n old → (l : Listed) × (listedAs (n .name) new ≡ some l) × (n .listed .version ≤ l .version)
+
+-- "Length and digest are compared where listed"
+pub record Matches (l : Listed) (length : ℕ) (digest : Bytes) : Type 0 where
+  pub length-is : (n : ℕ) → l .length ≡ some n → length ≡ n
+  pub digest-is : (d : Bytes) → l .digest ≡ some d → digest ≡ d
