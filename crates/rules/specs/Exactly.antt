@@ -1,5 +1,5 @@
--- For each call: all of its conditions, in 01's words ("Steps"). A call answers 0 exactly when they hold, and then the state is the one
--- that is named here: the laws `.. -exactly` of the crate history.
+-- For each call: all of its conditions, in 01's words ("Steps"). A call answers 0 exactly when they hold, and then the state, or what was
+-- asked for, is the one that is named here: demand 2 is the record `Demand2`. The crate history proves it.
 use mathlib.Core.Path.{_≡_}
 use mathlib.Core.Logic.{_↔_}
 use mathlib.Core.Bool.{true}
@@ -11,15 +11,14 @@ use Rattle.base.specs.Bytes.{Bytes}
 use Rattle.base.specs.Hex.{isHex, undo}
 use Rattle.rules.specs.Limits.{maxPath, keySize}
 use Rattle.rules.specs.Records.{Key, Image, File, says}
-use Rattle.rules.specs.State.{Root, Timestamp, Snapshot, Targets, State, rootIn, timestampIn, snapshotIn, targetsIn, keepTargets, Install, RootOffer, TimestampOffer, FileOffer, Query}
+use lib.IntN.{ℤ}
+use Rattle.rules.specs.State.{Root, Timestamp, Snapshot, Targets, State, blank, rootIn, timestampIn, snapshotIn, targetsIn, keepTargets, Install, RootOffer, TimestampOffer, FileOffer, Query, Call, newCycle, newRoot, newTimestamp, newSnapshot, newTargets, find, askKey, askState}
 use Rattle.rules.specs.Conditions.{targetsEntry, imageOf, keyOf}
+use Rattle.rules.specs.Steps.{installAnswer, installed, rootAlone, answer, next, withStart, withRoot, withTimestamp, withSnapshot, withTargets}
+use Rattle.rules.specs.Asked.{Found, nothingFound, found, zeros, publicKey}
 use Rattle.rules.specs.Words.{GoodRow, GoodDigest, Enough, Expired, Keeps, Matches}
 
 -- ## Records that a step needs or leans on
-
-pub record HoldsRoot (s : State) : Type 0 where
-  pub root : Root
-  pub rootHeld : s .root ≡ some root
 
 -- held and not expired
 pub record LeansOnRoot (s : State) : Type 0 where
@@ -117,3 +116,41 @@ pub record KeyGood (s : State) (k : Bytes) (x : Key) : Type 0 where
   pub rootHeld : s .root ≡ some root
   pub hex : isHex keySize k ≡ true
   pub listed : keyOf (undo k) (root .keys) ≡ some x
+
+-- ## The claim
+
+-- The held root was read from a file, so that no role names a key twice. It is so of every state of a history.
+abbrev pub RootRead : State → Type 0
+RootRead s = (r : Root) → s .root ≡ some r → (file : Bytes) × (entries : List Bytes) × (rootIn file ≡ says r entries)
+
+-- of install, which is given no state
+pub record InstallExactly (o : Install) : Type 0 where
+  pub install : (installAnswer o ≡ 0) ↔ ((r : Root) × InstallGood o r)
+  pub installAfter : (r : Root) → InstallGood o r → installed o ≡ rootAlone r (o .start)
+  pub installRefused : ¬ (installAnswer o ≡ 0) → installed o ≡ blank
+
+pub record Demand2 (s : State) : Type 0 where
+  pub root : (o : RootOffer) → (answer s (newRoot o) ≡ 0) ↔ ((r : Root) × RootGood s o r)
+  pub rootAfter : (o : RootOffer) (r : Root) (g : RootGood s o r) → next s (newRoot o) ≡ withRoot s (g .held) r
+  pub timestamp : (o : TimestampOffer) → (answer s (newTimestamp o) ≡ 0) ↔ ((t : Timestamp) × TimestampGood s o t)
+  pub timestampAfter : (o : TimestampOffer) (t : Timestamp) → TimestampGood s o t → next s (newTimestamp o) ≡ withTimestamp s t
+  pub snapshot : (o : FileOffer) → (answer s (newSnapshot o) ≡ 0) ↔ ((n : Snapshot) × SnapshotGood s o n)
+  pub snapshotAfter : (o : FileOffer) (n : Snapshot) → SnapshotGood s o n → next s (newSnapshot o) ≡ withSnapshot s n
+  pub targets : (o : FileOffer) → (answer s (newTargets o) ≡ 0) ↔ ((g : File (List Image)) × TargetsGood s o g)
+  pub targetsAfter : (o : FileOffer) (g : File (List Image)) → TargetsGood s o g
+      → next s (newTargets o) ≡ withTargets s (keepTargets g (o .digest))
+  -- "New cycle: always succeeds."
+  pub cycle : (t : ℤ) → (answer s (newCycle t) ≡ 0) × (next s (newCycle t) ≡ withStart s t)
+  -- "Success gives length and sha256; a refusal gives zeros"
+  pub finds : (q : Query) → (answer s (find q) ≡ 0) ↔ ((i : Image) × FindGood s q i)
+  pub findsImage : (q : Query) (i : Image) → FindGood s q i → found s q ≡ record { length = i .length; digest = i .digest }
+  pub findRefused : (q : Query) → ¬ (answer s (find q) ≡ 0) → found s q ≡ nothingFound
+  pub keys : (k : Bytes) → (answer s (askKey k) ≡ 0) ↔ ((x : Key) × KeyGood s k x)
+  pub keyGiven : (k : Bytes) (x : Key) → KeyGood s k x → publicKey s k ≡ x .public
+  pub keyRefused : (k : Bytes) → ¬ (answer s (askKey k) ≡ 0) → publicKey s k ≡ zeros keySize
+  -- the calls that only read pass the state on
+  pub findAfter : (q : Query) → next s (find q) ≡ s
+  pub keyAfter : (k : Bytes) → next s (askKey k) ≡ s
+  pub stateAfter : (answer s askState ≡ 0) × (next s askState ≡ s)
+  -- "A refusal returns the state it was given"
+  pub refused : (c : Call) → ¬ (answer s c ≡ 0) → next s c ≡ s

@@ -1,0 +1,4 @@
+pub mod WordLaws
+pub mod TableLaws
+pub mod NextLaws
+pub mod ExactlyLaws

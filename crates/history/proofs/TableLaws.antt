@@ -1,0 +1,113 @@
+-- A call's table: the answer is 0 exactly where no condition holds, and else the lowest number whose condition holds.
+use mathlib.Core.Path.{_≡_, refl, sym, _∙_}
+use mathlib.Core.Logic.{_↔_, _⊎_, inl, inr}
+use mathlib.Core.Bool.{Bool, true, false, cond, _&&_}
+use mathlib.Core.Option.{Option, none, some}
+use mathlib.Core.List.{List, [], _∷_, List·Memᴰ, List·Memᴰ·head, List·Memᴰ·tail}
+use Prim.Native.Nat.{ℕ, zero, suc, _≤_, _<_}
+use native.Mathlib.Omega.{arith}
+use native.Mathlib.Nat.{le-trans}
+use lib.Dec.{leb, eqb}
+use borrow.Author.Tests.{leb-true}
+use Rattle.base.proofs.TestLaws.{never, both}
+use Rattle.base.specs.Bytes.{Bytes}
+use Rattle.rules.specs.Records.{Fault, tooLong, notText, badForm, otherSpec, Read, refused, says}
+use Rattle.rules.specs.Table.{Refusal, _when_, first, ofHeld, absent}
+use Rattle.rules.specs.Steps.{faultNumber, judged}
+
+-- ## No condition holds
+
+abbrev pub Clear : List Refusal → Type 0
+Clear [] = Unit {0}
+Clear (n when b ∷ rest) = (b ≡ false) × Clear rest
+
+-- one line after another
+infixr 5 _&_
+abbrev pub _&_ : {A B : Type 0} → A → B → A × B
+a & b = (a, b)
+
+pub clear-first : (rows : List Refusal) → Clear rows → first rows ≡ 0
+unfolding first
+clear-first [] p = refl
+clear-first (n when true ∷ rest) p = never (p .0)
+clear-first (n when false ∷ rest) p = clear-first rest (p .1)
+
+-- the numbers do not fall, and none is below m
+abbrev pub rising : ℕ → List Refusal → Bool
+rising m [] = true
+rising m (n when b ∷ rest) = leb m n && rising n rest
+
+pub first-clear : (m : ℕ) (rows : List Refusal) → 1 ≤ m → rising m rows ≡ true → first rows ≡ 0 → Clear rows
+unfolding first
+first-clear m [] l r e = tt
+first-clear m (n when true ∷ rest) l r e = absurd (omega (arith, leb-true m n (both (leb m n) (rising n rest) r .0)))
+first-clear m (n when false ∷ rest) l r e =
+    let w = both (leb m n) (rising n rest) r in
+    (refl, first-clear n rest (le-trans l (leb-true m n (w .0))) (w .1) e)
+
+-- the condition of the line of a number, of its k-th line where it has several, counted from 0
+abbrev pub condition : ℕ → ℕ → List Refusal → Bool
+condition n k [] = false
+condition n k (m when b ∷ rest) = cond (eqb n m) (elim k [ zero ↦ b | suc j ↦ condition n j rest ]) (condition n k rest)
+
+pub line-clear : (rows : List Refusal) → Clear rows → (n k : ℕ) → condition n k rows ≡ false
+line-clear [] p n k = refl
+line-clear (m when b ∷ rest) p n k = go (eqb n m) k (line-clear rest (p .1) n)
+  where
+    go : (c : Bool) (k : ℕ) → ((j : ℕ) → condition n j rest ≡ false)
+        → cond c (elim k as (λ x. Bool) [ zero ↦ b | suc j ↦ condition n j rest ]) (condition n k rest) ≡ false
+    go true zero more = p .0
+    go true (suc j) more = more j
+    go false k more = more k
+
+-- where the answer is 0, the condition of no line holds
+pub no-line : (rows : List Refusal) → rising 5 rows ≡ true → first rows ≡ 0 → (n k : ℕ) → condition n k rows ≡ false
+no-line rows r e = line-clear rows (first-clear 5 rows (omega arith) r e)
+
+-- ## Records that may not be held
+
+pub is-held : {A : Type 0} (o : Option A) → absent o ≡ false → (a : A) × (o ≡ some a)
+is-held none e = never e
+is-held (some a) e = (a, refl)
+
+pub not-absent : {A : Type 0} {o : Option A} {a : A} → o ≡ some a → absent o ≡ false
+not-absent e = rw e
+
+pub held-test : {A : Type 0} {o : Option A} {a : A} (p : A → Bool) → o ≡ some a → ofHeld o p ≡ false → p a ≡ false
+held-test p e t = rw e at t
+
+pub test-held : {A : Type 0} (o : Option A) (p : A → Bool) → ((a : A) → o ≡ some a → p a ≡ false) → ofHeld o p ≡ false
+test-held none p f = refl
+test-held (some a) p f = f a refl
+
+pub none-not-some : {A : Type 0} {a : A} → Path (Option A) none (some a) → ⊥
+none-not-some e = let z : _≡_ {A = ℕ} 0 1 = cc in omega arith
+
+pub some-is : {A : Type 0} {a b : A} → Path (Option A) (some a) (some b) → a ≡ b
+some-is e = cc
+
+-- ## Reading and the table
+
+pub fault-refuses : (f : Fault) → ¬ (faultNumber f ≡ 0)
+unfolding faultNumber
+fault-refuses tooLong e = omega arith
+fault-refuses notText e = omega arith
+fault-refuses badForm e = omega arith
+fault-refuses otherSpec e = omega arith
+
+-- a file that was judged 0 was read, and no condition of the table holds of what it says
+pub record Judged {A : Type 0} (rd : Read A) (table : A → List Bytes → List Refusal) : Type 0 where
+  pub file : A
+  pub entries : List Bytes
+  pub reads : rd ≡ says file entries
+  pub clear : first (table file entries) ≡ 0
+
+pub judged-says : {A : Type 0} (rd : Read A) (table : A → List Bytes → List Refusal) → judged rd table ≡ 0 → Judged rd table
+unfolding judged
+judged-says (refused f) table e = absurd (fault-refuses f e)
+judged-says (says a es) table e = record { file = a; entries = es; reads = refl; clear = e }
+
+pub says-judged : {A : Type 0} {rd : Read A} {a : A} {es : List Bytes} (table : A → List Bytes → List Refusal) → rd ≡ says a es
+    → Clear (table a es) → judged rd table ≡ 0
+unfolding judged
+says-judged {a} {es} table e c = rw e (clear-first (table a es) c)
