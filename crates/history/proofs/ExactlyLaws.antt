@@ -405,9 +405,10 @@ module _ (o : Install) where
   good-install r g =
       says-judged (installTable o) (g .reads) (row-good _ _ .1 (g .row) & enough-passes _ _ _ (g .ownKeys) & tt)
 
-  pub install-after : (r : Root) → InstallGood o r → installed o ≡ rootAlone r (o .start)
+  pub install-after : (r : Root) (es : List Bytes) → rootIn (o .file) ≡ says r es → installAnswer o ≡ 0
+      → installed o ≡ rootAlone r (o .start)
   unfolding installed begun
-  install-after r g = rw (good-install r g, g .reads)
+  install-after r es reads a = rw (a, reads)
 
   pub install-refused : ¬ (installAnswer o ≡ 0) → installed o ≡ blank
   unfolding installed

@@ -2,3 +2,6 @@ pub mod WordLaws
 pub mod TableLaws
 pub mod NextLaws
 pub mod ExactlyLaws
+pub mod Trusted
+pub mod Left
+pub mod Falls

@@ -86,6 +86,9 @@ none-not-some e = let z : _≡_ {A = ℕ} 0 1 = cc in omega arith
 pub some-is : {A : Type 0} {a b : A} → Path (Option A) (some a) (some b) → a ≡ b
 some-is e = cc
 
+pub one-held : {A : Type 0} {o : Option A} {a b : A} → o ≡ some a → o ≡ some b → a ≡ b
+one-held p q = cc
+
 -- ## Reading and the table
 
 pub fault-refuses : (f : Fault) → ¬ (faultNumber f ≡ 0)
