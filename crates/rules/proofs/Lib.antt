@@ -1,0 +1,3 @@
+pub mod OptionLaws
+pub mod ListLaws
+pub mod WordLaws
