@@ -1,0 +1,4 @@
+pub mod OptionLaws
+pub mod ListLaws
+pub mod WordLaws
+pub mod ReadingLaws
