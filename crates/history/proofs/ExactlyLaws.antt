@@ -13,7 +13,6 @@ use Rattle.base.specs.Bytes.{Bytes, same}
 use Rattle.base.specs.Hex.{isHex, undo}
 use Rattle.date.specs.Calendar.{expired}
 use Rattle.rules.specs.Limits.{keySize}
-use Rattle.base.proofs.ByteLaws.{same-true, same-self}
 use Rattle.rules.specs.Records.{Key, Role, Image, File, says}
 use Rattle.rules.specs.State.{Root, Timestamp, Snapshot, Targets, State, blank, rootIn, timestampIn, snapshotIn, targetsIn, keepTargets, Install, RootOffer, TimestampOffer, FileOffer, Query, Call, newCycle, newRoot, newTimestamp, newSnapshot, newTargets, find, askKey, askState}
 use Rattle.rules.specs.Table.{first, ofHeld, absent}
@@ -22,8 +21,11 @@ use Rattle.rules.specs.Steps.{installTable, cycleTable, rootTable, timestampTab
 use Rattle.rules.specs.Asked.{Found, nothingFound, theImage, inTargets, found, zeros, publicOf, inRoot, publicKey}
 use Rattle.rules.specs.Words.{GoodRow, GoodDigest, Different, Enough, Expired, Keeps, Matches}
 use Rattle.rules.specs.Exactly.{LeansOnRoot, LeansOnTimestamp, LeansOnSnapshot, LeansOnTargets, InstallGood, RootGood, TimestampGood, SnapshotGood, TargetsGood, FindGood, KeyGood, RootRead, InstallExactly, Demand2}
-use Rattle.history.proofs.WordLaws.{row-good, digest-good, version-exactly, fresh-exactly, enough-passes, passes-enough, keeps-exactly, matches-exactly, root-different}
-use Rattle.history.proofs.TableLaws.{Clear, _&_, clear-first, condition, no-line, is-held, not-absent, held-test, test-held, judged-says, says-judged}
+use Rattle.rules.proofs.OptionLaws.{not-absent}
+use Rattle.rules.proofs.ListLaws.{not-exactly, same-exactly}
+use Rattle.rules.proofs.WordLaws.{row-good, digest-good, version-exactly, fresh-exactly, enough-passes, passes-enough, keeps-exactly, matches-exactly}
+use Rattle.history.proofs.RootLaws.{root-different}
+use Rattle.history.proofs.TableLaws.{Clear, _&_, clear-first, condition, no-line, held-test, test-held, judged-says, says-judged}
 use Rattle.history.proofs.NextLaws.{next-refused, next-none, next-trusting, says-what}
 
 -- ## Root
@@ -39,7 +41,7 @@ module _ (s : State) (o : RootOffer) where
   root-good read a =
       let j = judged-says (rootIn (o .file)) (rootTable s o) a in
       let p = no-line (rootTable s o (j .file) (j .entries)) refl (j .clear) in
-      let h = is-held (s .root) (p 6 0) in (
+      let h = not-absent (s .root) .0 (p 6 0) in (
         j .file,
         record {
           entries = j .entries;
@@ -60,7 +62,7 @@ module _ (s : State) (o : RootOffer) where
       says-judged (rootTable s o) (g .reads)
       (row-good _ _ .1 (g .heldRow)
       & row-good _ _ .1 (g .ownRow)
-      & not-absent (g .isHeld)
+      & not-absent _ .1 (_, g .isHeld)
       & rw (g .isHeld) (enough-passes _ _ _ (g .heldKeys))
       & enough-passes _ _ _ (g .ownKeys)
       & rw (g .isHeld) (version-exactly _ _ .1 (g .version))
@@ -79,7 +81,7 @@ module _ (s : State) (o : RootOffer) where
 -- "leans on root": held and not expired
 leans-on-root : (s : State) → absent (s .root) ≡ false → ofHeld (s .root) (λ r. expired (r .expires) (s .start)) ≡ false → LeansOnRoot s
 leans-on-root s held fresh =
-    let h = is-held (s .root) held in
+    let h = not-absent (s .root) .0 held in
     record { root = h .0; rootHeld = h .1; rootFresh = fresh-exactly _ _ .0 (held-test _ (h .1) fresh) }
 
 module _ (s : State) (o : TimestampOffer) where
@@ -110,7 +112,7 @@ module _ (s : State) (o : TimestampOffer) where
       let held = g .on .rootHeld in
       says-judged (timestampTable s o) (g .reads)
       (row-good _ _ .1 (g .row)
-      & not-absent held
+      & not-absent _ .1 (_, held)
       & rw held (fresh-exactly _ _ .1 (g .on .rootFresh))
       & rw held (enough-passes _ _ _ (g .keys))
       & test-held (s .timestamp) _ (λ h e. le-ltb _ _ (le-of-lt (g .newer h e)))
@@ -132,7 +134,7 @@ module _ (s : State) (o : TimestampOffer) where
 leans-on-timestamp : (s : State) → LeansOnRoot s → absent (s .timestamp) ≡ false
     → ofHeld (s .timestamp) (λ t. expired (t .expires) (s .start)) ≡ false → LeansOnTimestamp s
 leans-on-timestamp s on held fresh =
-    let h = is-held (s .timestamp) held in
+    let h = not-absent (s .timestamp) .0 held in
     record {
       onRoot = on;
       timestamp = h .0;
@@ -173,8 +175,8 @@ module _ (s : State) (o : FileOffer) where
       says-judged (snapshotTable s o) (g .reads)
       (row-good _ _ .1 (g .row)
       & digest-good _ .1 (g .digest)
-      & not-absent root
-      & not-absent listed
+      & not-absent _ .1 (_, root)
+      & not-absent _ .1 (_, listed)
       & rw root (fresh-exactly _ _ .1 (g .on .onRoot .rootFresh))
       & rw listed (fresh-exactly _ _ .1 (g .on .timestampFresh))
       & rw listed (m .0)
@@ -199,7 +201,7 @@ leans-on-snapshot : (s : State) → LeansOnTimestamp s → absent (s .snapshot) 
     → ofHeld (s .snapshot) (λ n. expired (n .expires) (s .start)) ≡ false → LeansOnSnapshot s
 unfolding staleSnapshot
 leans-on-snapshot s on held current fresh =
-    let h = is-held (s .snapshot) held in
+    let h = not-absent (s .snapshot) .0 held in
     record {
       onTimestamp = on;
       snapshot = h .0;
@@ -247,9 +249,9 @@ module _ (s : State) (o : FileOffer) where
       says-judged (targetsTable s o) (g .reads)
       (row-good _ _ .1 (g .row)
       & digest-good _ .1 (g .digest)
-      & not-absent root
-      & not-absent timestamp
-      & not-absent listed
+      & not-absent _ .1 (_, root)
+      & not-absent _ .1 (_, timestamp)
+      & not-absent _ .1 (_, listed)
       & not-stale s (g .on)
       & rw root (fresh-exactly _ _ .1 (g .on .onTimestamp .onRoot .rootFresh))
       & rw timestamp (fresh-exactly _ _ .1 (g .on .onTimestamp .timestampFresh))
@@ -276,7 +278,7 @@ leans-on-targets : (s : State) → LeansOnSnapshot s → absent (s .targets) ≡
     → ofHeld (s .targets) (λ k. expired (k .expires) (s .start)) ≡ false → LeansOnTargets s
 unfolding staleTargets
 leans-on-targets s on held current fresh =
-    let h = is-held (s .targets) held in
+    let h = not-absent (s .targets) .0 held in
     record {
       onSnapshot = on;
       targets = h .0;
@@ -289,12 +291,6 @@ targets-not-stale : (s : State) (on : LeansOnTargets s) → staleTargets s ≡ f
 unfolding staleTargets
 targets-not-stale s on = rw (on .onSnapshot .snapshotHeld, on .targetsHeld) (version-exactly _ _ .1 (on .targetsCurrent))
 
-equal-digests : (d e : Bytes) → not (same d e) ≡ false → d ≡ e
-equal-digests d e t = same-true d e (not-false _ t)
-
-digests-equal : (d e : Bytes) → d ≡ e → not (same d e) ≡ false
-digests-equal d e q = rw (q, same-self e)
-
 module _ (s : State) (q : Query) where
   pub find-good : answer s (find q) ≡ 0 → (i : Image) × FindGood s q i
   unfolding answer findTable
@@ -306,7 +302,7 @@ module _ (s : State) (q : Query) where
       (leans-on-snapshot s (leans-on-timestamp s (leans-on-root s (p 6 0) (p 7 0)) (p 6 1) (p 7 1)) (p 6 2) (p 6 4) (p 7 2))
       (p 6 3) (p 6 5) (p 7 3)
       in
-      let i = is-held (imageOf (q .path) (j .file .body)) (p 15 2) in (
+      let i = not-absent (imageOf (q .path) (j .file .body)) .0 (p 15 2) in (
         i .0,
         record {
           file = j .file;
@@ -314,7 +310,7 @@ module _ (s : State) (q : Query) where
           reads = j .reads;
           digest = digest-good _ .0 (p 5 0);
           on = on;
-          kept = equal-digests _ _ (held-test _ (on .targetsHeld) (p 8 0));
+          kept = not-exactly _ (same-exactly _ _) .0 (held-test _ (on .targetsHeld) (p 8 0));
           notEmpty = leb-false (length (q .path)) 0 (p 15 0);
           notLong = ltb-false _ _ (p 15 1);
           listed = i .1;
@@ -329,20 +325,20 @@ module _ (s : State) (q : Query) where
       let onRoot = onTimestamp .onRoot in
       says-judged (findTable s q) (g .reads)
       (digest-good _ .1 (g .digest)
-      & not-absent (onRoot .rootHeld)
-      & not-absent (onTimestamp .timestampHeld)
-      & not-absent (onSnapshot .snapshotHeld)
-      & not-absent (g .on .targetsHeld)
+      & not-absent _ .1 (_, onRoot .rootHeld)
+      & not-absent _ .1 (_, onTimestamp .timestampHeld)
+      & not-absent _ .1 (_, onSnapshot .snapshotHeld)
+      & not-absent _ .1 (_, g .on .targetsHeld)
       & not-stale s onSnapshot
       & targets-not-stale s (g .on)
       & rw (onRoot .rootHeld) (fresh-exactly _ _ .1 (onRoot .rootFresh))
       & rw (onTimestamp .timestampHeld) (fresh-exactly _ _ .1 (onTimestamp .timestampFresh))
       & rw (onSnapshot .snapshotHeld) (fresh-exactly _ _ .1 (onSnapshot .snapshotFresh))
       & rw (g .on .targetsHeld) (fresh-exactly _ _ .1 (g .on .targetsFresh))
-      & rw (g .on .targetsHeld) (digests-equal _ _ (g .kept))
+      & rw (g .on .targetsHeld) (not-exactly _ (same-exactly _ _) .1 (g .kept))
       & lt-leb _ _ (g .notEmpty)
       & le-ltb _ _ (g .notLong)
-      & not-absent (g .listed)
+      & not-absent _ .1 (_, g .listed)
       & tt)
 
   pub finds : (i : Image) → FindGood s q i → found s q ≡ record { length = i .length; digest = i .digest }
@@ -360,14 +356,14 @@ module _ (s : State) (k : Bytes) where
   unfolding answer keyTable
   key-good a =
       let p = no-line (keyTable s k) refl a in
-      let h = is-held (s .root) (p 6 0) in
-      let x = is-held (keyOf (undo k) (h .0 .keys)) (held-test _ (h .1) (p 15 1)) in
+      let h = not-absent (s .root) .0 (p 6 0) in
+      let x = not-absent (keyOf (undo k) (h .0 .keys)) .0 (held-test _ (h .1) (p 15 1)) in
       (x .0, record { root = h .0; rootHeld = h .1; hex = not-false _ (p 15 0); listed = x .1 })
 
   pub good-key : (x : Key) → KeyGood s k x → answer s (askKey k) ≡ 0
   unfolding answer keyTable
   good-key x g =
-      clear-first (keyTable s k) (not-absent (g .rootHeld) & rw (g .hex) refl & rw (g .rootHeld) (not-absent (g .listed)) & tt)
+      clear-first (keyTable s k) (not-absent _ .1 (_, g .rootHeld) & rw (g .hex) refl & rw (g .rootHeld) (not-absent _ .1 (_, g .listed)) & tt)
 
   pub key-given : (x : Key) → KeyGood s k x → publicKey s k ≡ x .public
   unfolding publicKey refuses inRoot publicOf

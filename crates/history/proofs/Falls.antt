@@ -16,7 +16,7 @@ use Rattle.rules.specs.Steps.{dropIf, withRoot, withTimestamp, withSnapshot, wi
 use Rattle.rules.specs.Words.{Keeps}
 use Rattle.rules.specs.Exactly.{RootGood, RootRead}
 use Rattle.rules.specs.History.{History, Event, begins, calls, events, happened, BecomesTrusted, replaces, OtherKeys, Rotates, Apart, Unrotated}
-use Rattle.history.proofs.WordLaws.{rotates-exactly, keeps-trans, keeps-targets}
+use Rattle.rules.proofs.WordLaws.{rotates-exactly, keeps-trans, keeps-targets}
 use Rattle.history.proofs.TableLaws.{one-held}
 use Rattle.history.proofs.ExactlyLaws.{root-after, timestamp-after, snapshot-after, targets-after}
 use Rattle.history.proofs.Trusted.{TrustedBy, root, timestamp, snapshot, targets, trusted-by, by-trusted, SameRecords, idle-same, kind, read-next, read-installed}

@@ -66,25 +66,12 @@ no-line rows r e = line-clear rows (first-clear 5 rows (omega arith) r e)
 
 -- ## Records that may not be held
 
-pub is-held : {A : Type 0} (o : Option A) → absent o ≡ false → (a : A) × (o ≡ some a)
-is-held none e = never e
-is-held (some a) e = (a, refl)
-
-pub not-absent : {A : Type 0} {o : Option A} {a : A} → o ≡ some a → absent o ≡ false
-not-absent e = rw e
-
 pub held-test : {A : Type 0} {o : Option A} {a : A} (p : A → Bool) → o ≡ some a → ofHeld o p ≡ false → p a ≡ false
 held-test p e t = rw e at t
 
 pub test-held : {A : Type 0} (o : Option A) (p : A → Bool) → ((a : A) → o ≡ some a → p a ≡ false) → ofHeld o p ≡ false
 test-held none p f = refl
 test-held (some a) p f = f a refl
-
-pub none-not-some : {A : Type 0} {a : A} → Path (Option A) none (some a) → ⊥
-none-not-some e = let z : _≡_ {A = ℕ} 0 1 = cc in omega arith
-
-pub some-is : {A : Type 0} {a b : A} → Path (Option A) (some a) (some b) → a ≡ b
-some-is e = cc
 
 pub one-held : {A : Type 0} {o : Option A} {a b : A} → o ≡ some a → o ≡ some b → a ≡ b
 one-held p q = cc

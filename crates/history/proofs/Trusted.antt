@@ -12,7 +12,8 @@ use Rattle.rules.specs.Conditions.{targetsEntry}
 use Rattle.rules.specs.Steps.{answer, next, installAnswer, installed, rootAlone, withStart, withRoot, withTimestamp, withSnapshot, withTargets, Item, aRoot, aTimestamp, aSnapshot, aTargets, offered, started}
 use Rattle.rules.specs.Exactly.{RootGood, TimestampGood, SnapshotGood, TargetsGood, RootRead}
 use Rattle.rules.specs.History.{Event, begins, calls, BecomesTrusted, atInstall, atCall, Idle}
-use Rattle.history.proofs.TableLaws.{none-not-some, one-held}
+use Rattle.rules.proofs.OptionLaws.{none-not-some}
+use Rattle.history.proofs.TableLaws.{one-held}
 use Rattle.history.proofs.NextLaws.{next-refused, next-none}
 use Rattle.history.proofs.ExactlyLaws.{root-good, good-root, root-offered, root-after, timestamp-good, good-timestamp, timestamp-offered, timestamp-after, snapshot-good, good-snapshot, snapshot-offered, snapshot-after, targets-good, good-targets, targets-offered, targets-after, install-good, install-after}
 
@@ -28,7 +29,7 @@ pub data TrustedBy (s : State) : Call → Item → Type 0 where
 module _ (s : State) (read : RootRead s) where
   by-call : (c : Call) (x : Item) → offered c ≡ some x → answer s c ≡ 0 → TrustedBy s c x
   unfolding offered
-  by-call (newCycle t) x e a = absurd (none-not-some e)
+  by-call (newCycle t) x e a = none-not-some e
   by-call (newRoot o) x e a =
       let g = root-good s o read a in
       subst (λ y. TrustedBy s (newRoot o) y) (one-held (root-offered s o (g .0) (g .1)) e) (root (g .1))
@@ -41,9 +42,9 @@ module _ (s : State) (read : RootRead s) where
   by-call (newTargets o) x e a =
       let g = targets-good s o read a in
       subst (λ y. TrustedBy s (newTargets o) y) (one-held (targets-offered s o (g .0) (g .1)) e) (targets (g .1))
-  by-call (find q) x e a = absurd (none-not-some e)
-  by-call (askKey k) x e a = absurd (none-not-some e)
-  by-call askState x e a = absurd (none-not-some e)
+  by-call (find q) x e a = none-not-some e
+  by-call (askKey k) x e a = none-not-some e
+  by-call askState x e a = none-not-some e
 
   pub trusted-by : {c : Call} {x : Item} → BecomesTrusted (calls s c) x → TrustedBy s c x
   trusted-by (atCall {c} {x} e a) = by-call c x e a
