@@ -24,7 +24,7 @@ use Rattle.rules.specs.Exactly.{LeansOnRoot, LeansOnTimestamp, LeansOnSnapshot,
 use Rattle.rules.proofs.OptionLaws.{not-absent}
 use Rattle.rules.proofs.ListLaws.{not-exactly, same-exactly}
 use Rattle.rules.proofs.WordLaws.{row-good, digest-good, version-exactly, fresh-exactly, enough-passes, passes-enough, keeps-exactly, matches-exactly}
-use Rattle.history.proofs.RootLaws.{root-different}
+use Rattle.rules.proofs.RootLaws.{root-different}
 use Rattle.history.proofs.TableLaws.{Clear, _&_, clear-first, condition, no-line, held-test, test-held, judged-says, says-judged}
 use Rattle.history.proofs.NextLaws.{next-refused, next-none, next-trusting, says-what}
 

@@ -1,4 +1,3 @@
-pub mod RootLaws
 pub mod TableLaws
 pub mod NextLaws
 pub mod ExactlyLaws
@@ -6,3 +5,6 @@ pub mod Trusted
 pub mod Left
 pub mod Falls
 pub mod Held
+pub mod Publisher
+pub mod Demand2
+pub mod Demand3

@@ -3,6 +3,7 @@ use mathlib.Core.Path.{_≡_, refl, _∙_}
 use mathlib.Core.Option.{none, some}
 use mathlib.Core.List.{List}
 use borrow.Author.Tests.{eq-eqb, ne-eqb}
+use Rattle.base.proofs.TestLaws.{cond-elim}
 use Rattle.base.specs.Bytes.{Bytes}
 use Rattle.rules.specs.Records.{Read, says}
 use Rattle.rules.specs.State.{State, Call}
@@ -29,3 +30,8 @@ next-trusting s c x o e = next-accepted s c e ∙ rw o
 pub says-what : {A : Type 0} (f : A → Item) {rd : Read A} {a : A} {es : List Bytes} → rd ≡ says a es → whatSays f rd ≡ some (f a)
 unfolding whatSays
 says-what f e = rw e
+
+-- a call that only reads passes the state on
+pub next-same : (s : State) (c : Call) → offered c ≡ none → started s c ≡ s → next s c ≡ s
+unfolding next accepted trustingIf
+next-same s c o e = cond-elim (λ x. x ≡ s) (refuses c (answer s c)) s (accepted s c) (λ _. refl) (λ _. rw (o, e))

@@ -1,0 +1,58 @@
+-- Demand 2 for the written rules: of every state whose root was read from a file, and so of every state of a history.
+use mathlib.Core.Path.{_≡_, refl}
+use mathlib.Core.List.{List, [], _∷_}
+use Rattle.base.specs.Bytes.{Bytes}
+use Rattle.rules.specs.State.{Root, State, Install, Call, find, askKey, askState}
+use Rattle.rules.specs.Steps.{answer, offered, started, next, installed}
+use Rattle.rules.specs.Exactly.{RootRead, InstallExactly, Demand2}
+use Rattle.rules.specs.History.{History, run, end}
+use Rattle.history.proofs.NextLaws.{next-refused, next-same}
+use Rattle.history.proofs.ExactlyLaws.{root-good, good-root, root-after, timestamp-good, good-timestamp, timestamp-after, snapshot-good, good-snapshot, snapshot-after, targets-good, good-targets, targets-after, find-good, good-find, finds, finds-nothing, key-good, good-key, key-given, no-key, next-cycle, install-good, good-install, install-after, install-refused}
+use Rattle.history.proofs.Trusted.{read-next, read-installed}
+
+pub install-exactly : (o : Install) → InstallExactly o
+install-exactly o =
+    record {
+      install = (install-good o, λ w. good-install o (w .0) (w .1));
+      installAfter = λ r g. install-after o r (g .entries) (g .reads) (good-install o r g);
+      installRefused = install-refused o;
+    }
+
+pub demand2 : (s : State) → RootRead s → Demand2 s
+unfolding answer offered started
+demand2 s read =
+    record {
+      root = λ o. (root-good s o read, λ w. good-root s o (w .0) (w .1));
+      rootAfter = root-after s;
+      timestamp = λ o. (timestamp-good s o read, λ w. good-timestamp s o (w .0) (w .1));
+      timestampAfter = timestamp-after s;
+      snapshot = λ o. (snapshot-good s o read, λ w. good-snapshot s o (w .0) (w .1));
+      snapshotAfter = snapshot-after s;
+      targets = λ o. (targets-good s o read, λ w. good-targets s o (w .0) (w .1));
+      targetsAfter = targets-after s;
+      cycle = next-cycle s;
+      finds = λ q. (find-good s q, λ w. good-find s q (w .0) (w .1));
+      findsImage = finds s;
+      findRefused = finds-nothing s;
+      keys = λ k. (key-good s k, λ w. good-key s k (w .0) (w .1));
+      keyGiven = key-given s;
+      keyRefused = no-key s;
+      findAfter = λ q. next-same s (find q) refl refl;
+      keyAfter = λ k. next-same s (askKey k) refl refl;
+      stateAfter = (refl, next-same s askState refl refl);
+      refused = next-refused s;
+    }
+
+-- ## Along a history
+
+read-run : (s : State) → RootRead s → (cs : List Call) → RootRead (run s cs)
+unfolding run
+read-run s read [] = read
+read-run s read (c ∷ cs) = read-run (next s c) (read-next s read c) cs
+
+pub read-end : (h : History) → RootRead (end h)
+unfolding end
+read-end h = read-run (installed (h .install)) (read-installed (h .install) (h .accepted)) (h .calls)
+
+pub demand2-at : (h : History) → Demand2 (end h)
+demand2-at h = demand2 (end h) (read-end h)
