@@ -1,4 +1,5 @@
 pub mod TableLaws
+pub mod LowestLaws
 pub mod NextLaws
 pub mod ExactlyLaws
 pub mod Trusted

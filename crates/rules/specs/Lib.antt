@@ -8,6 +8,7 @@ pub mod Table
 pub mod Conditions
 pub mod Steps
 pub mod Asked
+pub mod Lowest
 pub mod Words
 pub mod Exactly
 pub mod History

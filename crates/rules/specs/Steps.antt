@@ -254,8 +254,14 @@ begun (says r es) start = rootAlone r start
 unfoldable pub installed : Install → State
 installed o = cond (eqb (installAnswer o) 0) (begun (rootIn (o .file)) (o .start)) blank
 
--- ## What the contract of a function that takes the state and returns the next one promises, for refusals as for successes
+-- ## What the contracts of the program's functions promise, for refusals as for successes
 
+-- of install
+pub record Began (o : Install) (answers : ℕ) (s : State) : Type 0 where
+  pub answered : answers ≡ installAnswer o
+  pub became : s ≡ installed o
+
+-- of a function that takes the state and returns the next one
 pub record Stepped (s : State) (c : Call) (answers : ℕ) (s′ : State) : Type 0 where
   pub answered : answers ≡ answer s c
   pub became : s′ ≡ next s c
