@@ -9,3 +9,4 @@ pub mod Held
 pub mod Publisher
 pub mod Demand2
 pub mod Demand3
+pub mod Program
