@@ -4,3 +4,7 @@ pub mod WordLaws
 pub mod ReadingLaws
 pub mod OrderLaws
 pub mod RootLaws
+pub mod NumberLaws
+pub mod Cases
+pub mod StepCases
+pub mod FileCases

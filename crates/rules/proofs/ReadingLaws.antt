@@ -5,14 +5,14 @@ use mathlib.Core.Logic.{_↔_}
 use mathlib.Core.Option.{Option, none, some}
 use mathlib.Core.Bool.{Bool, true, false, cond}
 use mathlib.Core.List.{List, [], _∷_, _++_, append-assoc}
-use Prim.Native.Nat.{ℕ, _+_, _≤_}
+use Prim.Native.Nat.{ℕ, _+_, _≤_, _<_}
 use native.Mathlib.Omega.{arith}
-use borrow.Author.Tests.{leb-true}
+use borrow.Author.Tests.{leb-true, le-leb, lt-leb}
 use lib.Dec.{leb}
 use lib.ListN.{length, take, drop, length-append}
 use lib.Seq.{take-at, drop-at}
 use Rattle.base.specs.Bytes.{Bytes, bytes, same}
-use Rattle.json.specs.Json.{Json, jnull, jtrue, jfalse, num, str, arr, obj, Members, mnil, mcons, put, putMembers, putMoreMembers, putStr, Valid, maxDepth}
+use Rattle.json.specs.Json.{Json, jnull, jtrue, jfalse, num, str, arr, obj, Members, mnil, mcons, put, putMembers, putMoreMembers, putStr, Valid, Canonical, maxDepth}
 use Rattle.json.specs.Read.{Got, bad, got, read}
 use Rattle.json.specs.Fields.{members, lookup}
 use Rattle.json.proofs.Says.{says-of}
@@ -24,8 +24,9 @@ use Rattle.rules.specs.Limits.{maxFile}
 use Rattle.base.proofs.TestLaws.{never}
 use Rattle.rules.specs.Records.{File, Fault, Read, refused, says, tooLong, otherSpec}
 use Rattle.rules.specs.Forms.{Envelope, envelope, entries, placeFrom, placeOf, knownSpec, fileOf}
+use Rattle.rules.specs.Table.{absent}
 use Rattle.rules.specs.Reading.{whole, parsed, judgedText, readWith, keyidsOf, opened, readEnvelope, known, spoken, inEnvelope, readAs}
-use Rattle.rules.proofs.OptionLaws.{none-not-some, some-is, had}
+use Rattle.rules.proofs.OptionLaws.{none-not-some, some-is, had, not-absent}
 
 -- ## Text
 
@@ -46,6 +47,26 @@ parsed-exactly file v = (there, back)
 
     back : Valid v maxDepth × (file ≡ put v []) → whole (read maxDepth file) ≡ some v
     back w = rw (w .1, complete v maxDepth [] (w .0) tt)
+
+pub canonical-exactly : (file : Bytes) → (absent (parsed file) ≡ false) ↔ Canonical maxDepth file
+canonical-exactly file = (there, λ c. not-absent (parsed file) .1 (c .0, parsed-exactly file (c .0) .1 (c .1, c .2)))
+  where
+    there : absent (parsed file) ≡ false → Canonical maxDepth file
+    there e =
+        let v = not-absent (parsed file) .0 e in
+        let w = parsed-exactly file (v .0) .0 (v .1) in
+        (v .0, w .0, w .1)
+
+-- ## "32,768 bytes may pass, 32,769 is 1"
+
+module _ {A : Type 0} (f : Json → Read A) (file : Bytes) where
+  pub too-long : maxFile < length file → readWith f file ≡ refused tooLong
+  unfolding readWith
+  too-long h = rw (lt-leb (length file) maxFile h)
+
+  pub not-too-long : length file ≤ maxFile → readWith f file ≡ judgedText f (parsed file)
+  unfolding readWith
+  not-too-long h = rw (le-leb (length file) maxFile h)
 
 -- ## What a file that was read consists of
 

@@ -1,0 +1,185 @@
+-- Cases of the steps, on what files say: those of 01 ("Dates, texts and files to try"), and for each way in which "a controller gets it
+-- wrong" one that such a controller fails.
+use mathlib.Core.Path.{refl}
+use mathlib.Core.List.{List, [], _∷_, map}
+use mathlib.Core.Option.{none, some}
+use mathlib.Core.Bool.{Bool, true, false}
+use Prim.Native.Nat.{ℕ}
+use lib.IntN.{ℤ, pos}
+use lib.ListN.{replicate}
+use Rattle.base.specs.Bytes.{Bytes, bytes, same}
+use Rattle.date.specs.Calendar.{expired}
+use Rattle.rules.specs.Records.{Role, Listed}
+use Rattle.rules.specs.Forms.{isIn}
+use Rattle.rules.specs.State.{Root, Timestamp, Snapshot, State, filter}
+use Rattle.rules.specs.Table.{first, absent}
+use Rattle.rules.specs.Conditions.{badRow, badDigest, otherVersion, listedAs, targetsEntry, staleSnapshot, staleTargets, otherLength, otherDigest, signed, count, tooFew, fallen, lost, within, rotated, rotates, rotatesTargets, imageOf}
+use Rattle.rules.specs.Steps.{rootTable, timestampTable, snapshotTable, targetsTable, findTable, withRoot}
+use Rattle.rules.proofs.Cases.{Case, _gives_, Right, a, b, both}
+
+-- ## A small world: roots are signed by key a, the other files by key b
+
+abbrev pub only : Bytes → Role
+only k = record { keyids = k ∷ []; threshold = 1 }
+
+abbrev pub rootAt : ℕ → Role → Role → Role → Root
+rootAt version timestampRole snapshotRole targetsRole =
+    record {
+      version = version;
+      expires = pos 1000;
+      keys = [];
+      rootRole = only a;
+      timestampRole = timestampRole;
+      snapshotRole = snapshotRole;
+      targetsRole = targetsRole;
+    }
+
+abbrev pub root4 : Root
+root4 = rootAt 4 (only b) (only b) (only b)
+
+abbrev pub digest : ℕ → Bytes
+digest n = replicate 32 n
+
+abbrev pub listed : ℕ → Listed
+listed version = record { version = version; length = some 30; digest = some (digest 5) }
+
+abbrev pub timestampAt : ℕ → ℤ → ℕ → Timestamp
+timestampAt version expires snapshot = record { version = version; expires = expires; snapshot = listed snapshot }
+
+abbrev pub snapshotAt : ℕ → ℕ → Snapshot
+snapshotAt version targets =
+    record {
+      version = version;
+      expires = pos 1000;
+      names = record { name = bytes "targets.json"; listed = listed targets } ∷ [];
+    }
+
+-- a state that holds root 4 only
+abbrev pub holding : ℤ → State
+holding start = record { root = some root4; timestamp = none; snapshot = none; targets = none; start = start }
+
+-- a state that holds root 4, timestamp 2, snapshot 3 and targets 7, and whose snapshot lists that version of targets
+abbrev pub full : ℕ → State
+full targets =
+    record {
+      root = some root4;
+      timestamp = some (timestampAt 2 (pos 1000) 3);
+      snapshot = some (snapshotAt 3 targets);
+      targets = some (record { version = 7; expires = pos 1000; digest = digest 7 });
+      start = pos 999;
+    }
+
+-- ## Answers. A file has one entry, with these verdicts
+
+abbrev pub toRoot : ℤ → ℕ → ℕ → ℕ → ℕ
+toRoot start heldVerdict ownVerdict version =
+    first (rootTable (holding start) (record { file = []; heldRow = heldVerdict ∷ []; ownRow = ownVerdict ∷ [] })
+    (rootAt version (only b) (only b) (only b)) (a ∷ []))
+
+abbrev pub toTimestamp : State → ℕ → Timestamp → ℕ
+toTimestamp s verdict t = first (timestampTable s (record { file = []; row = verdict ∷ [] }) t (b ∷ []))
+
+-- a snapshot of so many bytes with that digest
+abbrev pub toSnapshot : State → ℕ → ℕ → ℕ → Snapshot → ℕ
+toSnapshot s verdict long digests n =
+    first (snapshotTable s (record { file = replicate long 0; row = verdict ∷ []; digest = digest digests }) n (b ∷ []))
+
+-- targets of that version, with no images
+abbrev pub toTargets : State → ℕ → ℕ → ℕ → ℕ → ℕ
+toTargets s verdict long digests version =
+    first (targetsTable s (record { file = replicate long 0; row = verdict ∷ []; digest = digest digests })
+    (record { specVersion = bytes "1"; version = version; expires = pos 1000; body = [] }) (b ∷ []))
+
+-- a path asked for, of targets that list these paths
+abbrev pub toFind : State → ℕ → Bytes → List Bytes → ℕ
+toFind s digests path paths =
+    first (findTable s (record { file = []; digest = digest digests; path = path })
+    (record {
+      specVersion = bytes "1";
+      version = 7;
+      expires = pos 1000;
+      body = map (λ p. record { path = p; length = 30; digest = digest 5 }) paths;
+    }) [])
+
+abbrev pub answers : List (Case ℕ)
+answers =
+    -- "Held root 4: version 5 goes on; 4 and 6 are 11", also where both have expired
+    toRoot (pos 2000) 1 1 5 gives 0
+    ∷ toRoot (pos 2000) 1 1 4 gives 11
+    ∷ toRoot (pos 2000) 1 1 6 gives 11
+    -- one row of verdicts is not enough
+    ∷ toRoot (pos 2000) 0 1 5 gives 9
+    ∷ toRoot (pos 2000) 1 0 5 gives 10
+    -- "a verdict not 0 or 1"
+    ∷ toRoot (pos 2000) 2 1 5 gives 5
+    ∷ toRoot (pos 2000) 1 2 5 gives 5
+    -- "Expires 1000: start 999 passes, 1000 is expired"
+    ∷ toTimestamp (holding (pos 999)) 1 (timestampAt 1 (pos 1000) 1) gives 0
+    ∷ toTimestamp (holding (pos 1000)) 1 (timestampAt 1 (pos 2000) 1) gives 7
+    ∷ toTimestamp (holding (pos 999)) 1 (timestampAt 1 (pos 999) 1) gives 14
+    -- "A timestamp both too thinly signed and expired: 9"
+    ∷ toTimestamp (holding (pos 999)) 0 (timestampAt 1 (pos 999) 1) gives 9
+    -- "Below the held version 11, equal 12"; "13 if its snapshot version is below the held timestamp's"
+    ∷ toTimestamp (full 7) 1 (timestampAt 1 (pos 1000) 3) gives 11
+    ∷ toTimestamp (full 7) 1 (timestampAt 2 (pos 1000) 3) gives 12
+    ∷ toTimestamp (full 7) 1 (timestampAt 3 (pos 1000) 2) gives 13
+    ∷ toTimestamp (full 7) 1 (timestampAt 3 (pos 1000) 3) gives 0
+    -- a snapshot as listed; of another length, digest, version; not signed; with a lower version listed
+    ∷ toSnapshot (full 7) 1 30 5 (snapshotAt 3 7) gives 0
+    ∷ toSnapshot (full 7) 1 31 5 (snapshotAt 3 7) gives 8
+    ∷ toSnapshot (full 7) 1 30 6 (snapshotAt 3 7) gives 8
+    ∷ toSnapshot (full 7) 0 30 5 (snapshotAt 3 7) gives 9
+    ∷ toSnapshot (full 7) 1 30 5 (snapshotAt 4 7) gives 11
+    ∷ toSnapshot (full 7) 1 30 5 (snapshotAt 3 6) gives 13
+    ∷ toSnapshot (holding (pos 999)) 1 30 5 (snapshotAt 3 7) gives 6
+    -- targets as listed; of another length, digest, version; not signed
+    ∷ toTargets (full 8) 1 30 5 8 gives 0
+    ∷ toTargets (full 8) 1 31 5 8 gives 8
+    ∷ toTargets (full 8) 1 30 6 8 gives 8
+    ∷ toTargets (full 8) 0 30 5 8 gives 9
+    ∷ toTargets (full 8) 1 30 5 9 gives 11
+    ∷ toTargets (holding (pos 999)) 1 30 5 7 gives 6
+    -- a listed path; with another digest than the kept one; where the snapshot lists other targets
+    ∷ toFind (full 7) 7 (bytes "a") (bytes "a" ∷ []) gives 0
+    ∷ toFind (full 7) 6 (bytes "a") (bytes "a" ∷ []) gives 8
+    ∷ toFind (full 8) 7 (bytes "a") (bytes "a" ∷ []) gives 6
+    -- "Empty targets list: a find to which 1 to 8 do not apply is 15"
+    ∷ toFind (full 7) 7 (bytes "a") [] gives 15
+    -- "A path of length 0 or above 128 is 15"
+    ∷ toFind (full 7) 7 [] ([] ∷ []) gives 15
+    ∷ toFind (full 7) 7 (replicate 128 97) (replicate 128 97 ∷ []) gives 0
+    ∷ toFind (full 7) 7 (replicate 129 97) (replicate 129 97 ∷ []) gives 15
+    ∷ []
+
+pub answers-right : Right answers
+unfolding first rootTable timestampTable snapshotTable targetsTable findTable badRow badDigest otherVersion listedAs targetsEntry staleSnapshot staleTargets otherLength otherDigest signed count tooFew fallen lost imageOf filter expired same
+answers-right = refl
+
+-- ## What an accepted root drops: whether timestamp, snapshot, targets
+
+abbrev pub drops : Root → Root → List Bool
+drops old new =
+    let s = withRoot (full 7) old new in
+    absent (s .timestamp) ∷ absent (s .snapshot) ∷ absent (s .targets) ∷ []
+
+abbrev pub reordered : Role
+reordered = record { keyids = b ∷ a ∷ []; threshold = 2 }
+
+abbrev pub rotations : List (Case (List Bool))
+rotations =
+    -- the same sets, in whatever order
+    drops root4 (rootAt 5 (only b) (only b) (only b)) gives (false ∷ false ∷ false ∷ [])
+    ∷ drops (rootAt 4 both both both) (rootAt 5 reordered reordered reordered) gives (false ∷ false ∷ false ∷ [])
+    -- a key of the timestamp role added, removed, replaced
+    ∷ drops root4 (rootAt 5 both (only b) (only b)) gives (true ∷ true ∷ true ∷ [])
+    ∷ drops (rootAt 4 both (only b) (only b)) (rootAt 5 (only b) (only b) (only b)) gives (true ∷ true ∷ true ∷ [])
+    ∷ drops root4 (rootAt 5 (only a) (only b) (only b)) gives (true ∷ true ∷ true ∷ [])
+    -- of the snapshot role only
+    ∷ drops root4 (rootAt 5 (only b) both (only b)) gives (true ∷ true ∷ true ∷ [])
+    -- "If only the targets set differs, the targets record alone is dropped"
+    ∷ drops root4 (rootAt 5 (only b) (only b) both) gives (false ∷ false ∷ true ∷ [])
+    ∷ []
+
+pub rotations-right : Right rotations
+unfolding withRoot within rotated rotates rotatesTargets isIn same
+rotations-right = refl
