@@ -11,7 +11,7 @@ use Rattle.rules.specs.State.{Root, State, rootIn, RootOffer, Call, newRoot}
 use Rattle.rules.specs.Steps.{installed, rootAlone, next, aRoot}
 use Rattle.rules.specs.Words.{GoodRow, Enough}
 use Rattle.rules.specs.Exactly.{RootGood, RootRead}
-use Rattle.rules.specs.History.{History, run, end, Event, begins, calls, events, happened, BecomesTrusted, upTo, Demand3}
+use Rattle.rules.specs.History.{History, run, end, Event, begins, calls, events, happened, BecomesTrusted, Apart, upTo, Demand3}
 use Rattle.history.proofs.TableLaws.{one-held}
 use Rattle.history.proofs.ExactlyLaws.{install-good, install-after}
 use Rattle.history.proofs.Trusted.{TrustedBy, root, trusted-by, by-trusted, read-next, read-installed}
@@ -35,6 +35,27 @@ given h before c after q =
       events (next (run s before) c) after,
       ap (λ (es : List Event). begins (h .install) ∷ es) (ap (λ (cs : List Call). events s cs) q ∙ given-at s before c after),
     )
+
+-- two calls of a history, with what happened between them
+pub apart-at : (h : History) (before : List Call) (c : Call) (between : List Call) (d : Call) (after : List Call)
+    → h .calls ≡ before ++ (c ∷ (between ++ (d ∷ after)))
+    → Apart (happened h) (calls (run (installed (h .install)) before) c)
+    (events (next (run (installed (h .install)) before) c) between)
+    (calls (run (next (run (installed (h .install)) before) c) between) d)
+unfolding happened
+apart-at h before c between d after q =
+    let s = installed (h .install) in
+    let s′ = next (run s before) c in
+    let rest = given-at s′ between d after in
+    record {
+      before = begins (h .install) ∷ events s before;
+      after = events (next (run s′ between) d) after;
+      split =
+          ap (λ (es : List Event). begins (h .install) ∷ es)
+          (ap (λ (cs : List Call). events s cs) q
+          ∙ given-at s before c (between ++ (d ∷ after))
+          ∙ ap (λ (es : List Event). events s before ++ (calls (run s before) c ∷ es)) rest);
+    }
 
 -- ## A root is always held, and was read
 

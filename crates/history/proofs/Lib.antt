@@ -10,3 +10,5 @@ pub mod Publisher
 pub mod Demand2
 pub mod Demand3
 pub mod Program
+pub mod WitnessFiles
+pub mod Witness

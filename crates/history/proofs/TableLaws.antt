@@ -97,7 +97,11 @@ unfolding judged
 judged-says (refused f) table e = absurd (fault-refuses f e)
 judged-says (says a es) table e = record { file = a; entries = es; reads = refl; clear = e }
 
+pub judged-is : {A : Type 0} {rd : Read A} {a : A} {es : List Bytes} (table : A → List Bytes → List Refusal) → rd ≡ says a es
+    → judged rd table ≡ first (table a es)
+unfolding judged
+judged-is table e = rw e
+
 pub says-judged : {A : Type 0} {rd : Read A} {a : A} {es : List Bytes} (table : A → List Bytes → List Refusal) → rd ≡ says a es
     → Clear (table a es) → judged rd table ≡ 0
-unfolding judged
-says-judged {a} {es} table e c = rw e (clear-first (table a es) c)
+says-judged {a} {es} table e c = judged-is table e ∙ clear-first (table a es) c

@@ -1,0 +1,214 @@
+-- Small files of the four roles, as texts, and what they say: computed by the reader of the rules.
+use mathlib.Core.Path.{_≡_, refl}
+use mathlib.Core.List.{List, [], _∷_, _++_}
+use mathlib.Core.Option.{Option, none, some, bind}
+use Prim.Native.Nat.{ℕ}
+use Prim.Native.String.{String}
+use lib.IntN.{ℤ, pos}
+use Rattle.base.specs.Bytes.{Bytes, bytes, same, less}
+use Rattle.base.specs.Hex.{digitOf, allHex, isHex, undo}
+use Rattle.date.specs.Calendar.{fits, hasForm, dateOf, civilTime, timeOf, epoch, secondNumber, dayNumber, yearsBefore, firstMonths}
+use Rattle.json.specs.Lead.{leadOf}
+use Rattle.json.specs.Json.{put, putBytes}
+use Rattle.json.specs.Read as reader
+use Rattle.json.specs.Read.{read, kindOf, chars, digits, loop, body, member}
+use Rattle.json.specs.Fields as fields
+use Rattle.json.specs.Fields.{members, items, lookup, field, size, text, truth, keep, decimal, natural, between, number}
+use Rattle.rules.specs.Records.{Role, Key, Listed, Named, Image, File, Read, says}
+use Rattle.rules.specs.Take.{must, inside, may, single, sole, each, eachNamed, word, unhex, hex, date, nameOf}
+use Rattle.rules.specs.Forms.{isIn, different, entry, entries, placeFrom, placeOf, envelope, version, knownSpec, fileOf, key, keys, role, root, sha256, listed, timestamp, named, names, snapshot, image, images, targets}
+use Rattle.rules.specs.Reading.{whole, parsed, judgedText, readWith, keyidsOf, known, spoken, inEnvelope, readAs, readRoot, readTimestamp, readSnapshot, readTargets}
+use Rattle.rules.specs.State.{Root, Timestamp, Snapshot, filter, keepRole, keepRoot, keepTimestamp, keepSnapshot, kept, rootIn, timestampIn, snapshotIn, targetsIn}
+
+-- ## Texts
+
+abbrev pub eight : Bytes → Bytes
+eight t = t ++ t ++ t ++ t ++ t ++ t ++ t ++ t
+
+abbrev pub quoted : Bytes → Bytes
+quoted t = bytes "\"" ++ t ++ bytes "\""
+
+-- two keyids, which are their keys' public values too, and a digest: each as text and as bytes
+abbrev pub aText : Bytes
+aText = eight (bytes "0123abcd")
+
+abbrev pub bText : Bytes
+bText = eight (bytes "4567abcd")
+
+abbrev pub a : Bytes
+a = eight (0x01 ∷ 0x23 ∷ 0xab ∷ 0xcd ∷ [])
+
+abbrev pub b : Bytes
+b = eight (0x45 ∷ 0x67 ∷ 0xab ∷ 0xcd ∷ [])
+
+-- a file with an entry of each key
+abbrev pub entryText : Bytes → Bytes
+entryText k = bytes "{\"keyid\":" ++ quoted k ++ bytes ",\"sig\":" ++ quoted (k ++ k) ++ bytes "}"
+
+abbrev pub fileText : Bytes → Bytes
+fileText body =
+    bytes "{\"signatures\":[" ++ entryText aText ++ bytes "," ++ entryText bText ++ bytes "],\"signed\":{" ++ body ++ bytes "}}"
+
+abbrev pub keyText : Bytes → Bytes
+keyText k = quoted k ++ bytes ":{\"keytype\":\"ed25519\",\"keyval\":{\"public\":" ++ quoted k ++ bytes "},\"scheme\":\"ed25519\"}"
+
+abbrev pub roleText : Bytes → Bytes
+roleText k = bytes "{\"keyids\":[" ++ quoted k ++ bytes "],\"threshold\":1}"
+
+-- a root by its version and the keys of its timestamp, snapshot and targets roles; key a is its own
+abbrev pub rootText : String → Bytes → Bytes → Bytes → Bytes
+rootText version timestampKey snapshotKey targetsKey =
+    fileText
+    (bytes "\"_type\":\"root\",\"consistent_snapshot\":false,\"expires\":\"2030-01-01T00:00:00Z\",\"keys\":{"
+    ++ keyText aText ++ bytes "," ++ keyText bText
+    ++ bytes "},\"roles\":{\"root\":" ++ roleText aText
+    ++ bytes ",\"snapshot\":" ++ roleText snapshotKey
+    ++ bytes ",\"targets\":" ++ roleText targetsKey
+    ++ bytes ",\"timestamp\":" ++ roleText timestampKey
+    ++ bytes "},\"spec_version\":\"1\",\"version\":" ++ bytes version)
+
+abbrev pub only : Bytes → Role
+only k = record { keyids = k ∷ []; threshold = 1 }
+
+abbrev pub rootAt : ℕ → Bytes → Bytes → Bytes → Root
+rootAt version timestampKey snapshotKey targetsKey =
+    record {
+      version = version;
+      expires = pos 1893456000;
+      keys = record { keyid = a; public = a } ∷ record { keyid = b; public = b } ∷ [];
+      rootRole = only a;
+      timestampRole = only timestampKey;
+      snapshotRole = only snapshotKey;
+      targetsRole = only targetsKey;
+    }
+
+-- what a file lists: a version alone, or with length and digest
+abbrev pub versionText : String → Bytes
+versionText version = bytes "{\"version\":" ++ bytes version ++ bytes "}"
+
+abbrev pub dText : Bytes
+dText = quoted (eight (bytes "07070707"))
+
+abbrev pub d : Bytes
+d = eight (7 ∷ 7 ∷ 7 ∷ 7 ∷ [])
+
+abbrev pub fullText : String → String → Bytes
+fullText length version =
+    bytes "{\"hashes\":{\"sha256\":" ++ dText ++ bytes "},\"length\":" ++ bytes length ++ bytes ",\"version\":" ++ bytes version
+    ++ bytes "}"
+
+abbrev pub versionOnly : ℕ → Listed
+versionOnly version = record { version = version; length = none; digest = none }
+
+abbrev pub full : ℕ → ℕ → Listed
+full length version = record { version = version; length = some length; digest = some d }
+
+abbrev pub timestampText : String → Bytes → Bytes
+timestampText version snapshot =
+    fileText
+    (bytes "\"_type\":\"timestamp\",\"expires\":\"2030-01-01T00:00:00Z\",\"meta\":{\"snapshot.json\":" ++ snapshot
+    ++ bytes "},\"spec_version\":\"1\",\"version\":" ++ bytes version)
+
+abbrev pub timestampAt : ℕ → Listed → Timestamp
+timestampAt version snapshot = record { version = version; expires = pos 1893456000; snapshot = snapshot }
+
+abbrev pub snapshotText : String → Bytes → Bytes
+snapshotText version names =
+    fileText
+    (bytes "\"_type\":\"snapshot\",\"expires\":\"2030-01-01T00:00:00Z\",\"meta\":{" ++ names
+    ++ bytes "},\"spec_version\":\"1\",\"version\":" ++ bytes version)
+
+abbrev pub snapshotAt : ℕ → List Named → Snapshot
+snapshotAt version names = record { version = version; expires = pos 1893456000; names = names }
+
+abbrev pub nameText : String → Bytes → Bytes
+nameText name listed = quoted (bytes name) ++ bytes ":" ++ listed
+
+abbrev pub name : String → Listed → Named
+name n listed = record { name = bytes n; listed = listed }
+
+abbrev pub targetsText : String → Bytes → Bytes
+targetsText version images =
+    fileText
+    (bytes "\"_type\":\"targets\",\"expires\":\"2030-01-01T00:00:00Z\",\"spec_version\":\"1\",\"targets\":{" ++ images
+    ++ bytes "},\"version\":" ++ bytes version)
+
+abbrev pub targetsAt : ℕ → List Image → File (List Image)
+targetsAt version images = record { specVersion = bytes "1"; version = version; expires = pos 1893456000; body = images }
+
+abbrev pub imageText : Bytes
+imageText = bytes "\"f\":{\"hashes\":{\"sha256\":" ++ dText ++ bytes "},\"length\":5}"
+
+abbrev pub anImage : Image
+anImage = record { path = bytes "f"; length = 5; digest = d }
+
+-- ## Files
+
+abbrev pub plainNames : Bytes
+plainNames = nameText "a.json" (versionText "1") ++ bytes "," ++ nameText "targets.json" (versionText "3")
+
+abbrev pub moreNames : Bytes
+moreNames =
+    nameText "a.json" (versionText "1") ++ bytes "," ++ nameText "b.json" (versionText "1") ++ bytes ","
+    ++ nameText "targets.json" (versionText "3")
+
+abbrev pub lowNames : Bytes
+lowNames = nameText "a.json" (versionText "1") ++ bytes "," ++ nameText "targets.json" (versionText "1")
+
+abbrev pub fullNames : Bytes
+fullNames = nameText "a.json" (versionText "2") ++ bytes "," ++ nameText "targets.json" (fullText "653" "2")
+
+abbrev pub plain : Snapshot
+plain = snapshotAt 7 (name "a.json" (versionOnly 1) ∷ name "targets.json" (versionOnly 3) ∷ [])
+
+abbrev pub more : Snapshot
+more = snapshotAt 7 (name "a.json" (versionOnly 1) ∷ name "b.json" (versionOnly 1) ∷ name "targets.json" (versionOnly 3) ∷ [])
+
+abbrev pub low : Snapshot
+low = snapshotAt 2 (name "a.json" (versionOnly 1) ∷ name "targets.json" (versionOnly 1) ∷ [])
+
+abbrev pub complete : Snapshot
+complete = snapshotAt 3 (name "a.json" (versionOnly 2) ∷ name "targets.json" (full 653 2) ∷ [])
+
+abbrev pub Says : {A : Type 0} → (Bytes → Read A) → Bytes → A → Type 0
+Says reading text file = reading text ≡ says file (a ∷ b ∷ [])
+
+pub record Readings : Type 0 where
+  pub root1 : Says rootIn (rootText "1" aText aText aText) (rootAt 1 a a a)
+  pub root2 : Says rootIn (rootText "2" aText aText bText) (rootAt 2 a a b)
+  pub root3 : Says rootIn (rootText "3" bText aText bText) (rootAt 3 b a b)
+  pub root4 : Says rootIn (rootText "4" bText aText bText) (rootAt 4 b a b)
+  pub timestamp5 : Says timestampIn (timestampText "5" (versionText "7")) (timestampAt 5 (versionOnly 7))
+  pub timestamp6 : Says timestampIn (timestampText "6" (versionText "7")) (timestampAt 6 (versionOnly 7))
+  pub timestamp1 : Says timestampIn (timestampText "1" (versionText "2")) (timestampAt 1 (versionOnly 2))
+  pub timestamp2 : Says timestampIn (timestampText "2" (fullText "699" "3")) (timestampAt 2 (full 699 3))
+  pub snapshot7 : Says snapshotIn (snapshotText "7" plainNames) plain
+  pub snapshot7More : Says snapshotIn (snapshotText "7" moreNames) more
+  pub snapshot2 : Says snapshotIn (snapshotText "2" lowNames) low
+  pub snapshot3 : Says snapshotIn (snapshotText "3" fullNames) complete
+  pub targets3 : Says targetsIn (targetsText "3" imageText) (targetsAt 3 (anImage ∷ []))
+  pub empty3 : Says targetsIn (targetsText "3" []) (targetsAt 3 [])
+  pub targets1 : Says targetsIn (targetsText "1" imageText) (targetsAt 1 (anImage ∷ []))
+  pub targets2 : Says targetsIn (targetsText "2" imageText) (targetsAt 2 (anImage ∷ []))
+
+pub readings : Readings
+unfolding same less digitOf allHex isHex undo fits hasForm dateOf civilTime timeOf epoch secondNumber dayNumber yearsBefore firstMonths leadOf put putBytes read kindOf chars digits loop body member reader.number members items lookup field size fields.count text truth keep decimal natural between number bind must inside may single sole each eachNamed word unhex hex date nameOf isIn different entry entries placeFrom placeOf envelope version knownSpec fileOf key keys role root sha256 listed timestamp named names snapshot image images targets whole parsed judgedText readWith keyidsOf known spoken inEnvelope readAs readRoot readTimestamp readSnapshot readTargets filter keepRole keepRoot keepTimestamp keepSnapshot kept rootIn timestampIn snapshotIn targetsIn
+readings =
+    record {
+      root1 = refl;
+      root2 = refl;
+      root3 = refl;
+      root4 = refl;
+      timestamp5 = refl;
+      timestamp6 = refl;
+      timestamp1 = refl;
+      timestamp2 = refl;
+      snapshot7 = refl;
+      snapshot7More = refl;
+      snapshot2 = refl;
+      snapshot3 = refl;
+      targets3 = refl;
+      empty3 = refl;
+      targets1 = refl;
+      targets2 = refl;
+    }
