@@ -1,8 +1,7 @@
 -- Demand 2 for the written rules: of every state whose root was read from a file, and so of every state of a history.
-use mathlib.Core.Path.{_≡_, refl}
+use mathlib.Core.Path.{refl}
 use mathlib.Core.List.{List, [], _∷_}
-use Rattle.base.specs.Bytes.{Bytes}
-use Rattle.rules.specs.State.{Root, State, Install, Call, find, askKey, askState}
+use Rattle.rules.specs.State.{State, Install, Call, find, askKey, askState}
 use Rattle.rules.specs.Steps.{answer, offered, started, next, installed}
 use Rattle.rules.specs.Exactly.{RootRead, InstallExactly, Demand2}
 use Rattle.rules.specs.History.{History, run, end}

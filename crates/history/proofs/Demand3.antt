@@ -1,5 +1,5 @@
 -- Demand 3, proved: one claim about every history.
-use mathlib.Core.Path.{_≡_, refl, sym, ap, _∙_, subst, subst₂}
+use mathlib.Core.Path.{_≡_, refl, ap, _∙_, subst, subst₂}
 use mathlib.Core.Logic.{_↔_}
 use mathlib.Core.Option.{some}
 use mathlib.Core.List.{List, [], _∷_, _++_, List·Memᴰ, List·Memᴰ·head, List·Memᴰ·tail}
@@ -10,7 +10,7 @@ use Rattle.rules.specs.Records.{Read, says}
 use Rattle.rules.specs.State.{Root, State, rootIn, RootOffer, Call, newRoot}
 use Rattle.rules.specs.Steps.{installed, rootAlone, next, aRoot}
 use Rattle.rules.specs.Words.{GoodRow, Enough}
-use Rattle.rules.specs.Exactly.{RootGood, RootRead}
+use Rattle.rules.specs.Exactly.{RootRead}
 use Rattle.rules.specs.History.{History, run, end, Event, begins, calls, events, happened, BecomesTrusted, Apart, upTo, Demand3}
 use Rattle.history.proofs.TableLaws.{one-held}
 use Rattle.history.proofs.ExactlyLaws.{install-good, install-after}

@@ -1,32 +1,31 @@
 -- Demand 2 for the written rules: each call answers 0 exactly when all of its conditions hold, and what it then gives.
-use mathlib.Core.Path.{_≡_, refl, sym, _∙_}
-use mathlib.Core.Option.{Option, none, some}
-use mathlib.Core.Bool.{Bool, true, false, not}
-use mathlib.Core.List.{List, []}
-use Prim.Native.Nat.{ℕ, _+_, _≤_, _<_}
+use mathlib.Core.Path.{_≡_, refl, _∙_}
+use mathlib.Core.Option.{some}
+use mathlib.Core.Bool.{false}
+use mathlib.Core.List.{List}
 use native.Mathlib.Omega.{arith}
 use native.Mathlib.Nat.{le-of-lt}
 use lib.IntN.{ℤ}
 use lib.ListN.{length}
 use borrow.Author.Tests.{ltb-false, le-ltb, eqb-false, ne-eqb, leb-false, lt-leb, not-false}
-use Rattle.base.specs.Bytes.{Bytes, same}
-use Rattle.base.specs.Hex.{isHex, undo}
+use Rattle.base.specs.Bytes.{Bytes}
+use Rattle.base.specs.Hex.{undo}
 use Rattle.date.specs.Calendar.{expired}
 use Rattle.rules.specs.Limits.{keySize}
-use Rattle.rules.specs.Records.{Key, Role, Image, File, says}
-use Rattle.rules.specs.State.{Root, Timestamp, Snapshot, Targets, State, blank, rootIn, timestampIn, snapshotIn, targetsIn, keepTargets, Install, RootOffer, TimestampOffer, FileOffer, Query, Call, newCycle, newRoot, newTimestamp, newSnapshot, newTargets, find, askKey, askState}
+use Rattle.rules.specs.Records.{Key, Image, File, says}
+use Rattle.rules.specs.State.{Root, Timestamp, Snapshot, State, blank, rootIn, timestampIn, snapshotIn, targetsIn, keepTargets, Install, RootOffer, TimestampOffer, FileOffer, Query, newCycle, newRoot, newTimestamp, newSnapshot, newTargets, find, askKey}
 use Rattle.rules.specs.Table.{first, ofHeld, absent}
-use Rattle.rules.specs.Conditions.{targetsEntry, staleSnapshot, staleTargets, tooFew, imageOf, keyOf}
+use Rattle.rules.specs.Conditions.{staleSnapshot, staleTargets, imageOf, keyOf}
 use Rattle.rules.specs.Steps.{installTable, cycleTable, rootTable, timestampTable, snapshotTable, targetsTable, findTable, keyTable, installAnswer, installed, begun, rootAlone, answer, refuses, next, withStart, withRoot, withTimestamp, withSnapshot, withTargets, aRoot, aTimestamp, aSnapshot, aTargets, offered, started, trusting, afterRoot}
-use Rattle.rules.specs.Asked.{Found, nothingFound, theImage, inTargets, found, zeros, publicOf, inRoot, publicKey}
-use Rattle.rules.specs.Words.{GoodRow, GoodDigest, Different, Enough, Expired, Keeps, Matches}
-use Rattle.rules.specs.Exactly.{LeansOnRoot, LeansOnTimestamp, LeansOnSnapshot, LeansOnTargets, InstallGood, RootGood, TimestampGood, SnapshotGood, TargetsGood, FindGood, KeyGood, RootRead, InstallExactly, Demand2}
+use Rattle.rules.specs.Asked.{nothingFound, theImage, inTargets, found, zeros, publicOf, inRoot, publicKey}
+use Rattle.rules.specs.Words.{Different}
+use Rattle.rules.specs.Exactly.{LeansOnRoot, LeansOnTimestamp, LeansOnSnapshot, LeansOnTargets, InstallGood, RootGood, TimestampGood, SnapshotGood, TargetsGood, FindGood, KeyGood, RootRead}
 use Rattle.rules.proofs.OptionLaws.{not-absent}
 use Rattle.rules.proofs.ListLaws.{not-exactly, same-exactly}
 use Rattle.rules.proofs.WordLaws.{row-good, digest-good, version-exactly, fresh-exactly, enough-passes, passes-enough, keeps-exactly, matches-exactly}
 use Rattle.rules.proofs.RootLaws.{root-different}
-use Rattle.history.proofs.TableLaws.{Clear, _&_, clear-first, condition, no-line, held-test, test-held, judged-says, says-judged}
-use Rattle.history.proofs.NextLaws.{next-refused, next-none, next-trusting, says-what}
+use Rattle.history.proofs.TableLaws.{_&_, clear-first, no-line, held-test, test-held, judged-says, says-judged}
+use Rattle.history.proofs.NextLaws.{next-none, next-trusting, says-what}
 
 -- ## Root
 

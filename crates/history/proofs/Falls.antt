@@ -4,23 +4,23 @@
 use mathlib.Core.Path.{_≡_, refl, sym, ap, _∙_, subst}
 use mathlib.Core.Logic.{inl, inr}
 use mathlib.Core.Bool.{Bool, true, false}
-use mathlib.Core.Option.{Option, some}
+use mathlib.Core.Option.{some}
 use mathlib.Core.List.{List, [], _∷_, _++_, List·Memᴰ·head, List·Memᴰ·tail, nil≢cons, head-eq-of-cons-eq, tail-eq-of-cons-eq}
-use Prim.Native.Nat.{ℕ, _≤_}
+use Prim.Native.Nat.{_≤_}
 use native.Mathlib.Omega.{arith}
 use native.Mathlib.Nat.{le-trans, le-refl, le-of-lt}
 use Rattle.rules.specs.Records.{Named}
 use Rattle.rules.specs.State.{Root, Timestamp, Snapshot, Targets, State, keepTargets, Call, newRoot, newTimestamp, newSnapshot, newTargets}
 use Rattle.rules.specs.Conditions.{targetsEntry, rotates}
-use Rattle.rules.specs.Steps.{dropIf, withRoot, withTimestamp, withSnapshot, withTargets, next, installed, Item, aRoot, aTimestamp, aSnapshot, aTargets}
+use Rattle.rules.specs.Steps.{withRoot, withTimestamp, withSnapshot, withTargets, next, installed, Item, aRoot, aTimestamp, aSnapshot, aTargets}
 use Rattle.rules.specs.Words.{Keeps}
-use Rattle.rules.specs.Exactly.{RootGood, RootRead}
-use Rattle.rules.specs.History.{History, Event, begins, calls, events, happened, BecomesTrusted, replaces, OtherKeys, Rotates, Apart, Unrotated}
+use Rattle.rules.specs.Exactly.{RootRead}
+use Rattle.rules.specs.History.{History, Event, begins, calls, events, happened, BecomesTrusted, replaces, Rotates, Apart, Unrotated}
 use Rattle.rules.proofs.WordLaws.{rotates-exactly, keeps-trans, keeps-targets}
 use Rattle.history.proofs.TableLaws.{one-held}
 use Rattle.history.proofs.ExactlyLaws.{root-after, timestamp-after, snapshot-after, targets-after}
-use Rattle.history.proofs.Trusted.{TrustedBy, root, timestamp, snapshot, targets, trusted-by, by-trusted, SameRecords, idle-same, kind, read-next, read-installed}
-use Rattle.history.proofs.Left.{LeftSnapshot, LeftTargets, Left, left, left-installed}
+use Rattle.history.proofs.Trusted.{TrustedBy, root, timestamp, snapshot, targets, trusted-by, by-trusted, idle-same, kind, read-next, read-installed}
+use Rattle.history.proofs.Left.{Left, left, left-installed}
 
 -- ## The two orders
 

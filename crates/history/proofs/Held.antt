@@ -5,10 +5,8 @@ use mathlib.Core.Logic.{_↔_, _⊎_, inl, inr}
 use mathlib.Core.Bool.{Bool, true, false}
 use mathlib.Core.Option.{Option, none, some}
 use mathlib.Core.List.{List, [], _∷_, _++_, List·Memᴰ, List·Memᴰ·head, List·Memᴰ·tail, nil≢cons, head-eq-of-cons-eq, tail-eq-of-cons-eq}
-use Rattle.base.specs.Bytes.{Bytes}
 use Rattle.base.proofs.TestLaws.{never}
-use Rattle.rules.specs.Records.{says}
-use Rattle.rules.specs.State.{Root, Timestamp, Snapshot, Targets, State, keepTargets, rootIn, Install, RootOffer, Call, newRoot, newTimestamp, newSnapshot, newTargets}
+use Rattle.rules.specs.State.{Root, Timestamp, Snapshot, Targets, State, keepTargets, Install, RootOffer, Call, newRoot, newTimestamp, newSnapshot, newTargets}
 use Rattle.rules.specs.Conditions.{rotates, rotatesTargets}
 use Rattle.rules.specs.Steps.{dropIf, withRoot, withTimestamp, withSnapshot, withTargets, next, installAnswer, installed, rootAlone, Item, aRoot, aTimestamp, aSnapshot, aTargets}
 use Rattle.rules.specs.Exactly.{RootGood, RootRead}

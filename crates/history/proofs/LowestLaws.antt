@@ -11,10 +11,10 @@ use borrow.Author.Tests.{leb-true}
 use Rattle.base.specs.Bytes.{Bytes}
 use Rattle.base.proofs.TestLaws.{never, both}
 use Rattle.rules.specs.Records.{Fault, tooLong, notText, badForm, otherSpec, Read, refused, says}
-use Rattle.rules.specs.State.{State, rootIn, timestampIn, snapshotIn, targetsIn, Install, RootOffer, TimestampOffer, FileOffer, Query, newRoot, newTimestamp, newSnapshot, newTargets, find, askKey}
+use Rattle.rules.specs.State.{rootIn, timestampIn, snapshotIn, targetsIn}
 use Rattle.rules.specs.Table.{Refusal, _when_, first}
 use Rattle.rules.specs.Steps.{installTable, rootTable, timestampTable, snapshotTable, targetsTable, findTable, keyTable, faultNumber, judged, installAnswer, answer}
-use Rattle.rules.specs.Asked.{Found, imageTable, imageAnswer}
+use Rattle.rules.specs.Asked.{imageTable, imageAnswer}
 use Rattle.rules.specs.Lowest.{LowestOf, noneHolds, holds, Judgement, unread, judges, Lowest}
 use Rattle.history.proofs.TableLaws.{rising}
 

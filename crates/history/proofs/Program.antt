@@ -4,10 +4,10 @@ use mathlib.Core.Option.{some}
 use mathlib.Core.List.{List, [], _∷_, map, List·Memᴰ, List·Memᴰ·head, List·Memᴰ·tail}
 use Prim.Native.Nat.{ℕ}
 use Rattle.base.specs.Bytes.{Bytes}
-use Rattle.rules.specs.State.{Root, State, Install, Query, Call, newRoot, newTimestamp, newSnapshot, newTargets, find, askKey, askState}
-use Rattle.rules.specs.Steps.{answer, offered, started, next, installed, Began, Stepped}
-use Rattle.rules.specs.Exactly.{RootRead, Demand2}
-use Rattle.rules.specs.History.{History, run, end, Event, begins, events, happened, RootTurn, Plan, afterRoots, atTimestamp, atSnapshot, Honest, RootsThrough, Through, Demand3}
+use Rattle.rules.specs.State.{Root, State, Query, Call, newRoot, newTimestamp, newSnapshot, newTargets, find, askKey, askState}
+use Rattle.rules.specs.Steps.{answer, offered, started, next, installed, Stepped}
+use Rattle.rules.specs.Exactly.{RootRead}
+use Rattle.rules.specs.History.{run, end, Event, begins, events, happened, RootTurn, Plan, afterRoots, atTimestamp, atSnapshot, Honest, RootsThrough, Through}
 use Rattle.history.specs.Program.{Step, Chained, after, callsOf, Run, last, historyOf, eventOf, Leg, RootLegs, afterLegs, RootsAccepted, Carried, Accepted, Holds}
 use Rattle.history.proofs.NextLaws.{next-same}
 use Rattle.history.proofs.Trusted.{read-next, read-installed}

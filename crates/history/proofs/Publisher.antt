@@ -3,8 +3,8 @@
 use mathlib.Core.Path.{_≡_, refl, ap, _∙_}
 use mathlib.Core.Option.{some}
 use mathlib.Core.List.{List, [], _∷_}
-use Rattle.rules.specs.State.{Root, State, Call, newRoot, newTimestamp, newSnapshot, newTargets}
-use Rattle.rules.specs.Steps.{answer, next, withRoot, withTimestamp, withSnapshot, withTargets}
+use Rattle.rules.specs.State.{Root, State, Call, newRoot, newTimestamp, newSnapshot}
+use Rattle.rules.specs.Steps.{next, withRoot, withTimestamp, withSnapshot, withTargets}
 use Rattle.rules.specs.Exactly.{RootGood, TimestampGood, SnapshotGood, TargetsGood, LeansOnRoot, LeansOnTimestamp, LeansOnSnapshot}
 use Rattle.rules.specs.History.{run, Quiet, RootTurn, Plan, atRoot, afterRoots, atTimestamp, atSnapshot, atTargets, lastRoot, InTurn, QuietRoots, Honest, RootsThrough, Through}
 use Rattle.history.proofs.ExactlyLaws.{good-root, root-after, good-timestamp, timestamp-after, good-snapshot, snapshot-after, good-targets, targets-after}

@@ -1,10 +1,9 @@
 -- A call's table: the answer is 0 exactly where no condition holds, and else the lowest number whose condition holds.
-use mathlib.Core.Path.{_≡_, refl, sym, _∙_}
-use mathlib.Core.Logic.{_↔_, _⊎_, inl, inr}
+use mathlib.Core.Path.{_≡_, refl, _∙_}
 use mathlib.Core.Bool.{Bool, true, false, cond, _&&_}
 use mathlib.Core.Option.{Option, none, some}
-use mathlib.Core.List.{List, [], _∷_, List·Memᴰ, List·Memᴰ·head, List·Memᴰ·tail}
-use Prim.Native.Nat.{ℕ, zero, suc, _≤_, _<_}
+use mathlib.Core.List.{List, [], _∷_}
+use Prim.Native.Nat.{ℕ, zero, suc, _≤_}
 use native.Mathlib.Omega.{arith}
 use native.Mathlib.Nat.{le-trans}
 use lib.Dec.{leb, eqb}
@@ -12,7 +11,7 @@ use borrow.Author.Tests.{leb-true}
 use Rattle.base.proofs.TestLaws.{never, both}
 use Rattle.base.specs.Bytes.{Bytes}
 use Rattle.rules.specs.Records.{Fault, tooLong, notText, badForm, otherSpec, Read, refused, says}
-use Rattle.rules.specs.Table.{Refusal, _when_, first, ofHeld, absent}
+use Rattle.rules.specs.Table.{Refusal, _when_, first, ofHeld}
 use Rattle.rules.specs.Steps.{faultNumber, judged}
 
 -- ## No condition holds

@@ -7,11 +7,10 @@ use mathlib.Core.List.{List}
 use native.Mathlib.Decide.{ℕ-discrete}
 use Rattle.base.specs.Bytes.{Bytes}
 use Rattle.rules.specs.Records.{Image, File, says}
-use Rattle.rules.specs.State.{Root, Timestamp, Snapshot, Targets, State, keepTargets, rootIn, Install, RootOffer, TimestampOffer, FileOffer, Call, newCycle, newRoot, newTimestamp, newSnapshot, newTargets, find, askKey, askState}
-use Rattle.rules.specs.Conditions.{targetsEntry}
+use Rattle.rules.specs.State.{Root, Timestamp, Snapshot, State, keepTargets, rootIn, Install, RootOffer, TimestampOffer, FileOffer, Call, newCycle, newRoot, newTimestamp, newSnapshot, newTargets, find, askKey, askState}
 use Rattle.rules.specs.Steps.{answer, next, installAnswer, installed, rootAlone, withStart, withRoot, withTimestamp, withSnapshot, withTargets, Item, aRoot, aTimestamp, aSnapshot, aTargets, offered, started}
 use Rattle.rules.specs.Exactly.{RootGood, TimestampGood, SnapshotGood, TargetsGood, RootRead}
-use Rattle.rules.specs.History.{Event, begins, calls, BecomesTrusted, atInstall, atCall, Idle}
+use Rattle.rules.specs.History.{calls, BecomesTrusted, atCall, Idle}
 use Rattle.rules.proofs.OptionLaws.{none-not-some}
 use Rattle.history.proofs.TableLaws.{one-held}
 use Rattle.history.proofs.NextLaws.{next-refused, next-none}

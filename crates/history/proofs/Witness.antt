@@ -3,7 +3,7 @@
 -- root rotates the timestamp keys, and after it the versions do fall.
 use mathlib.Core.Path.{_≡_, refl, sym, ap, _∙_, subst}
 use mathlib.Core.Option.{Option, none, some}
-use mathlib.Core.Bool.{Bool, true, false}
+use mathlib.Core.Bool.{false}
 use mathlib.Core.List.{List, [], _∷_, _++_}
 use Prim.Native.Nat.{ℕ, suc, _≤_, _<_}
 use native.Mathlib.Omega.{arith}
@@ -12,21 +12,21 @@ use lib.ListN.{length, take, drop}
 use Rattle.base.specs.Bytes.{Bytes, bytes, same}
 use Rattle.base.specs.Hex.{digitOf, allHex, isHex, undo}
 use Rattle.date.specs.Calendar.{expired}
-use Rattle.rules.specs.Records.{Image, File, says}
+use Rattle.rules.specs.Records.{Image, File}
 use Rattle.rules.specs.Forms.{isIn}
 use Rattle.rules.specs.State.{Root, Timestamp, Snapshot, Targets, State, filter, keepTargets, rootIn, timestampIn, snapshotIn, targetsIn, Row, Install, RootOffer, TimestampOffer, FileOffer, Query, Call, newCycle, newRoot, newTimestamp, newSnapshot, newTargets, find, askKey, askState}
 use Rattle.rules.specs.Table.{first}
 use Rattle.rules.specs.Conditions.{badRow, badDigest, otherVersion, listedAs, targetsEntry, staleSnapshot, staleTargets, otherLength, otherDigest, signed, count, tooFew, fallen, lost, within, rotated, rotates, rotatesTargets, imageOf, keyOf}
-use Rattle.rules.specs.Steps.{installTable, rootTable, timestampTable, snapshotTable, targetsTable, findTable, keyTable, judged, installAnswer, answer, refuses, next, installed, begun, rootAlone, withStart, withRoot, withTimestamp, withSnapshot, withTargets, aRoot, aTimestamp, aSnapshot, aTargets, offered, trusting, started, afterRoot}
+use Rattle.rules.specs.Steps.{installTable, rootTable, timestampTable, snapshotTable, targetsTable, findTable, keyTable, installAnswer, answer, next, installed, rootAlone, withStart, withRoot, withTimestamp, withSnapshot, withTargets, aRoot, aTimestamp, aSnapshot, aTargets, offered, trusting, started, afterRoot}
 use Rattle.rules.specs.Words.{GoodRow, Enough, Keeps}
 use Rattle.rules.specs.History.{History, run, end, Event, calls, events, happened, Apart, BecomesTrusted, atCall, Idle, Plan, afterRoots, atTimestamp, atSnapshot, atTargets, lastRoot, Fresh, Honest, Through}
 use Rattle.rules.proofs.OptionLaws.{none-not-some, some-is}
 use Rattle.rules.proofs.WordLaws.{row-good, fresh-exactly, passes-enough, keeps-exactly, matches-exactly}
 use Rattle.history.proofs.TableLaws.{one-held, judged-is}
-use Rattle.history.proofs.NextLaws.{next-trusting, next-refused, next-none, next-same, says-what}
+use Rattle.history.proofs.NextLaws.{next-trusting, next-refused, next-same, says-what}
 use Rattle.history.proofs.ExactlyLaws.{next-cycle, install-after}
 use Rattle.history.proofs.Demand3.{apart-at, demand3}
-use Rattle.history.proofs.WitnessFiles.{aText, bText, a, b, only, rootText, rootAt, versionText, d, fullText, versionOnly, full, timestampText, timestampAt, snapshotText, snapshotAt, targetsText, targetsAt, imageText, anImage, plainNames, moreNames, lowNames, fullNames, plain, more, low, complete, Says, readings}
+use Rattle.history.proofs.WitnessFiles.{aText, bText, a, b, only, rootText, rootAt, versionText, d, fullText, versionOnly, full, timestampText, timestampAt, snapshotText, targetsText, targetsAt, imageText, anImage, plainNames, moreNames, lowNames, fullNames, low, complete, Says, readings}
 
 -- ## The calls
 

@@ -1,10 +1,10 @@
 -- Small files of the four roles, as texts, and what they say: computed by the reader of the rules.
 use mathlib.Core.Path.{_≡_, refl}
 use mathlib.Core.List.{List, [], _∷_, _++_}
-use mathlib.Core.Option.{Option, none, some, bind}
+use mathlib.Core.Option.{none, some, bind}
 use Prim.Native.Nat.{ℕ}
 use Prim.Native.String.{String}
-use lib.IntN.{ℤ, pos}
+use lib.IntN.{pos}
 use Rattle.base.specs.Bytes.{Bytes, bytes, same, less}
 use Rattle.base.specs.Hex.{digitOf, allHex, isHex, undo}
 use Rattle.date.specs.Calendar.{fits, hasForm, dateOf, civilTime, timeOf, epoch, secondNumber, dayNumber, yearsBefore, firstMonths}
@@ -14,7 +14,7 @@ use Rattle.json.specs.Read as reader
 use Rattle.json.specs.Read.{read, kindOf, chars, digits, loop, body, member}
 use Rattle.json.specs.Fields as fields
 use Rattle.json.specs.Fields.{members, items, lookup, field, size, text, truth, keep, decimal, natural, between, number}
-use Rattle.rules.specs.Records.{Role, Key, Listed, Named, Image, File, Read, says}
+use Rattle.rules.specs.Records.{Role, Listed, Named, Image, File, Read, says}
 use Rattle.rules.specs.Take.{must, inside, may, single, sole, each, eachNamed, word, unhex, hex, date, nameOf}
 use Rattle.rules.specs.Forms.{isIn, different, entry, entries, placeFrom, placeOf, envelope, version, knownSpec, fileOf, key, keys, role, root, sha256, listed, timestamp, named, names, snapshot, image, images, targets}
 use Rattle.rules.specs.Reading.{whole, parsed, judgedText, readWith, keyidsOf, known, spoken, inEnvelope, readAs, readRoot, readTimestamp, readSnapshot, readTargets}

@@ -3,9 +3,9 @@
 use mathlib.Core.Path.{_≡_}
 use mathlib.Core.Logic.{_↔_}
 use mathlib.Core.Bool.{true}
-use mathlib.Core.Option.{Option, some}
+use mathlib.Core.Option.{some}
 use mathlib.Core.List.{List}
-use Prim.Native.Nat.{ℕ, _+_, _≤_, _<_}
+use Prim.Native.Nat.{_+_, _≤_, _<_}
 use lib.ListN.{length}
 use Rattle.base.specs.Bytes.{Bytes}
 use Rattle.base.specs.Hex.{isHex, undo}
@@ -15,7 +15,7 @@ use lib.IntN.{ℤ}
 use Rattle.rules.specs.State.{Root, Timestamp, Snapshot, Targets, State, blank, rootIn, timestampIn, snapshotIn, targetsIn, keepTargets, Install, RootOffer, TimestampOffer, FileOffer, Query, Call, newCycle, newRoot, newTimestamp, newSnapshot, newTargets, find, askKey, askState}
 use Rattle.rules.specs.Conditions.{targetsEntry, imageOf, keyOf}
 use Rattle.rules.specs.Steps.{installAnswer, installed, rootAlone, answer, next, withStart, withRoot, withTimestamp, withSnapshot, withTargets}
-use Rattle.rules.specs.Asked.{Found, nothingFound, found, zeros, publicKey}
+use Rattle.rules.specs.Asked.{nothingFound, found, zeros, publicKey}
 use Rattle.rules.specs.Words.{GoodRow, GoodDigest, Enough, Expired, Keeps, Matches}
 
 -- ## Records that a step needs or leans on

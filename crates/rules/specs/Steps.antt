@@ -12,8 +12,8 @@ use Rattle.base.specs.Bytes.{Bytes, same}
 use Rattle.base.specs.Hex.{isHex, undo}
 use Rattle.date.specs.Calendar.{expired}
 use Rattle.rules.specs.Limits.{maxPath, keySize}
-use Rattle.rules.specs.Records.{Role, Image, File, Fault, tooLong, notText, badForm, otherSpec, Read, refused, says}
-use Rattle.rules.specs.State.{Root, Timestamp, Snapshot, Targets, State, blank, keepTargets, rootIn, timestampIn, snapshotIn, targetsIn, Row, Install, RootOffer, TimestampOffer, FileOffer, Query, Call, newCycle, newRoot, newTimestamp, newSnapshot, newTargets, find, askKey, askState}
+use Rattle.rules.specs.Records.{Image, File, Fault, tooLong, notText, badForm, otherSpec, Read, refused, says}
+use Rattle.rules.specs.State.{Root, Timestamp, Snapshot, Targets, State, blank, keepTargets, rootIn, timestampIn, snapshotIn, targetsIn, Install, RootOffer, TimestampOffer, FileOffer, Query, Call, newCycle, newRoot, newTimestamp, newSnapshot, newTargets, find, askKey, askState}
 use Rattle.rules.specs.Table.{Refusal, _when_, first, ofHeld, absent}
 use Rattle.rules.specs.Conditions.{badRow, badDigest, otherVersion, targetsEntry, staleSnapshot, staleTargets, otherLength, otherDigest, tooFew, lost, rotates, rotatesTargets, imageOf, keyOf}
 
