@@ -6,15 +6,13 @@ use mathlib.Core.Option.{Option, none, some}
 use Prim.Native.Nat.{ℕ}
 use Prim.Native.String.{String}
 use lib.IntN.{ℤ, pos, negℤ}
-use Rattle.base.specs.Bytes.{Bytes, bytes, same, less}
-use Rattle.date.specs.Calendar.{fits, hasForm, dateOf, civilTime, timeOf, epoch, secondNumber, dayNumber, yearsBefore, firstMonths}
-use Rattle.json.specs.Lead.{leadOf}
+use Rattle.base.specs.Bytes.{Bytes, bytes}
+use Rattle.date.specs.Calendar.{dateOf}
 use Rattle.json.specs.Json.{Json}
-use Rattle.json.specs.Read.{read, kindOf, chars, digits, number, loop, body, member}
 use Rattle.rules.specs.Records.{Role}
-use Rattle.rules.specs.Reading.{whole, parsed}
-use Rattle.rules.specs.State.{filter}
-use Rattle.rules.specs.Conditions.{signed, count}
+use Rattle.rules.specs.Reading.{parsed}
+use Rattle.rules.specs.Conditions.{count}
+use Rattle.rules.proofs.Computing.{dates, tables, texts}
 
 -- ## Tables of cases: what the definitions give, and what 01 says
 
@@ -76,5 +74,5 @@ table =
     ∷ []
 
 pub right : Right table
-unfolding fits hasForm dateOf civilTime timeOf epoch secondNumber dayNumber yearsBefore firstMonths read kindOf chars leadOf digits loop body member number less same whole parsed filter signed count
+unfolding dates texts tables
 right = refl

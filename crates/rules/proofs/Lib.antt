@@ -5,6 +5,9 @@ pub mod ReadingLaws
 pub mod OrderLaws
 pub mod RootLaws
 pub mod NumberLaws
+pub mod Computing
 pub mod Cases
 pub mod StepCases
+pub mod Texts
 pub mod FileCases
+pub mod RunCases

@@ -7,15 +7,13 @@ use mathlib.Core.Bool.{Bool, true, false}
 use Prim.Native.Nat.{ℕ}
 use lib.IntN.{ℤ, pos}
 use lib.ListN.{replicate}
-use Rattle.base.specs.Bytes.{Bytes, bytes, same}
-use Rattle.date.specs.Calendar.{expired}
+use Rattle.base.specs.Bytes.{Bytes, bytes}
 use Rattle.rules.specs.Records.{Role, Listed}
-use Rattle.rules.specs.Forms.{isIn}
-use Rattle.rules.specs.State.{Root, Timestamp, Snapshot, State, filter}
+use Rattle.rules.specs.State.{Root, Timestamp, Snapshot, State}
 use Rattle.rules.specs.Table.{first, absent}
-use Rattle.rules.specs.Conditions.{badRow, badDigest, otherVersion, listedAs, targetsEntry, staleSnapshot, staleTargets, otherLength, otherDigest, signed, count, tooFew, fallen, lost, within, rotated, rotates, rotatesTargets, imageOf}
 use Rattle.rules.specs.Steps.{rootTable, timestampTable, snapshotTable, targetsTable, findTable, withRoot}
 use Rattle.rules.proofs.Cases.{Case, _gives_, Right, a, b, both}
+use Rattle.rules.proofs.Computing.{tables}
 
 -- ## A small world: roots are signed by key a, the other files by key b
 
@@ -152,7 +150,7 @@ answers =
     ∷ []
 
 pub answers-right : Right answers
-unfolding first rootTable timestampTable snapshotTable targetsTable findTable badRow badDigest otherVersion listedAs targetsEntry staleSnapshot staleTargets otherLength otherDigest signed count tooFew fallen lost imageOf filter expired same
+unfolding tables
 answers-right = refl
 
 -- ## What an accepted root drops: whether timestamp, snapshot, targets
@@ -181,5 +179,5 @@ rotations =
     ∷ []
 
 pub rotations-right : Right rotations
-unfolding withRoot within rotated rotates rotatesTargets isIn same
+unfolding tables
 rotations-right = refl
