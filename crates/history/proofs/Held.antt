@@ -3,19 +3,20 @@
 use mathlib.Core.Path.{_≡_, refl, sym, ap, _∙_, subst, subst₂}
 use mathlib.Core.Logic.{_↔_, _⊎_, inl, inr}
 use mathlib.Core.Bool.{Bool, true, false}
+use lib.IntN.{ℤ}
 use mathlib.Core.Option.{Option, none, some}
 use mathlib.Core.List.{List, [], _∷_, _++_, List·Memᴰ, List·Memᴰ·head, List·Memᴰ·tail, nil≢cons, head-eq-of-cons-eq, tail-eq-of-cons-eq}
 use Rattle.base.proofs.TestLaws.{never}
-use Rattle.rules.specs.State.{Root, Timestamp, Snapshot, Targets, State, keepTargets, Install, RootOffer, Call, newRoot, newTimestamp, newSnapshot, newTargets}
+use Rattle.rules.specs.State.{Root, Timestamp, Snapshot, Targets, State, Install, Call, newRoot}
 use Rattle.rules.specs.Conditions.{rotates, rotatesTargets}
-use Rattle.rules.specs.Steps.{dropIf, withRoot, withTimestamp, withSnapshot, withTargets, next, installAnswer, installed, rootAlone, Item, aRoot, aTimestamp, aSnapshot, aTargets}
-use Rattle.rules.specs.Exactly.{RootGood, RootRead}
-use Rattle.rules.specs.History.{History, run, end, Event, begins, calls, events, happened, BecomesTrusted, atInstall, Replaces, replaces, OtherKeys, OtherTargetsKeys, LastOf, Another, AnotherOr}
+use Rattle.rules.specs.Steps.{dropIf, withRoot, withTimestamp, withSnapshot, withTargets, next, installAnswer, installed, rootAlone, Item, aRoot, aTimestamp, aSnapshot, aTargets, trusting}
+use Rattle.rules.specs.Exactly.{RootRead}
+use Rattle.rules.specs.History.{History, run, end, Event, begins, calls, events, happened, BecomesTrusted, atInstall, replaces, OtherKeys, OtherTargetsKeys, LastOf, Another, AnotherOr}
 use Rattle.rules.proofs.OptionLaws.{none-not-some}
 use Rattle.rules.proofs.WordLaws.{rotates-exactly, rotates-targets-exactly}
 use Rattle.history.proofs.TableLaws.{one-held}
 use Rattle.history.proofs.ExactlyLaws.{root-after, timestamp-after, snapshot-after, targets-after, install-good, install-after}
-use Rattle.history.proofs.Trusted.{TrustedBy, root, timestamp, snapshot, targets, trusted-by, by-trusted, one-trusted, idle-same, kind, read-next, read-installed}
+use Rattle.history.proofs.Trusted.{TrustedBy, root, timestamp, snapshot, targets, trusted-by, by-trusted, one-trusted, trusted-next, SameRecords, idle-same, kind, read-next, read-installed}
 use Rattle.history.proofs.Left.{left, left-installed}
 
 -- ## Once, for any part of the state
@@ -32,6 +33,18 @@ one-root e = cc
 
 abbrev NoneEnds : (Event → Type 0) → List Event → Type 0
 NoneEnds Ends es = (e : Event) → List·Memᴰ e es → ¬ Ends e
+
+-- with one event more before
+earlier : {es : List Event} {x : Item} {Ends : Event → Type 0} (e : Event) → LastOf es x Ends → LastOf (e ∷ es) x Ends
+earlier e l =
+    record {
+      before = e ∷ l .before;
+      at = l .at;
+      after = l .after;
+      split = ap (λ (es : List Event). e ∷ es) (l .split);
+      trusted = l .trusted;
+      since = l .since;
+    }
 
 module _ {A : Type 0} (part : State → Option A) (item : A → Item) (Ends : Event → Type 0)
     (does : (s : State) → RootRead s → (c : Call) → Does part item Ends s c)
@@ -70,16 +83,7 @@ module _ {A : Type 0} (part : State → Option A) (item : A → Item) (Ends : Ev
 
   back : (s : State) → RootRead s → (c : Call) (cs : List Call) (a : A) → Since (next s c) cs a → Since s (c ∷ cs) a
   unfolding events
-  back s read c cs a (inl l) =
-      inl
-      (record {
-        before = calls s c ∷ l .before;
-        at = l .at;
-        after = l .after;
-        split = ap (λ (es : List Event). calls s c ∷ es) (l .split);
-        trusted = l .trusted;
-        since = l .since;
-      })
+  back s read c cs a (inl l) = inl (earlier (calls s c) l)
   back s read c cs a (inr (e, f)) = go (does s read c)
     where
       none-ends : ¬ Ends (calls s c) → NoneEnds Ends (events s (c ∷ cs))
@@ -116,15 +120,7 @@ module _ {A : Type 0} (part : State → Option A) (item : A → Item) (Ends : Ev
       read₀ = read-installed (h .install) (h .accepted)
 
       to : Since s₀ (h .calls) a → LastOf (begins (h .install) ∷ events s₀ (h .calls)) (item a) Ends
-      to (inl l) =
-          record {
-            before = begins (h .install) ∷ l .before;
-            at = l .at;
-            after = l .after;
-            split = ap (λ (es : List Event). begins (h .install) ∷ es) (l .split);
-            trusted = l .trusted;
-            since = l .since;
-          }
+      to (inl l) = earlier (begins (h .install)) l
       to (inr (e, f)) =
           record {
             before = [];
@@ -162,97 +158,82 @@ module _ (s : State) (read : RootRead s) where
 
 -- ## The parts that an accepted root can drop
 
--- neither a file of the role nor a root becomes trusted
-alone : {A : Type 0} (part : State → Option A) (item : A → Item) (Differs : Root → Root → Type 0) (s : State) (c : Call)
-    → part (next s c) ≡ part s → ((a : A) → ¬ BecomesTrusted (calls s c) (item a))
-    → ((r : Root) → ¬ BecomesTrusted (calls s c) (aRoot r)) → Does part item (AnotherOr item Differs) s c
-alone part item Differs s c same f g = stays same no
-  where
-    no : ¬ AnotherOr item Differs (calls s c)
-    no (inl w) = f (w .0) (w .1)
-    no (inr (replaces {new} _ k _)) = g new k
+-- what a file that becomes trusted is to a part of the state: one of its own, or a root, or another one, which leaves it as it is
+data Touches {A : Type 0} (part : State → Option A) (item : A → Item) (s : State) (x : Item) : Type 0 where
+  own : (a : A) → x ≡ item a → Touches part item s x
+  isRoot : (r : Root) → x ≡ aRoot r → ((a : A) → ¬ (x ≡ item a)) → Touches part item s x
+  other : part (trusting s x) ≡ part s → ((a : A) → ¬ (x ≡ item a)) → ((r : Root) → ¬ (x ≡ aRoot r)) → Touches part item s x
 
--- an accepted root drops the part where it differs, and else leaves it
+-- an accepted root drops the part exactly where it differs
 module _ {A : Type 0} (part : State → Option A) (item : A → Item) (Differs : Root → Root → Type 0) (test : Root → Root → Bool)
-    (exactly : (old new : Root) → (test old new ≡ true) ↔ Differs old new) (s : State) (o : RootOffer) (r : Root) (g : RootGood s o r)
-    (now : part (next s (newRoot o)) ≡ dropIf (test (g .held) r) (part s))
-    (other : (a : A) → ¬ BecomesTrusted (calls s (newRoot o)) (item a)) where
-  root-drops : Does part item (AnotherOr item Differs) s (newRoot o)
-  root-drops = go (test (g .held) r) refl
+    (exactly : (old new : Root) → (test old new ≡ true) ↔ Differs old new)
+    (dropped : (s : State) (old new : Root) → part (withRoot s old new) ≡ dropIf (test old new) (part s))
+    (touches : (s : State) (x : Item) → Touches part item s x)
+    (held : (s : State) → RootRead s → (c : Call) (a : A) → BecomesTrusted (calls s c) (item a) → part (next s c) ≡ some a)
+    (idle : (s : State) (c : Call) → SameRecords s (next s c) → part (next s c) ≡ part s) (s : State) (read : RootRead s) where
+  -- neither a file of the role nor a root becomes trusted
+  alone : {c : Call} → part (next s c) ≡ part s → ((a : A) → ¬ BecomesTrusted (calls s c) (item a))
+      → ((r : Root) → ¬ BecomesTrusted (calls s c) (aRoot r)) → Does part item (AnotherOr item Differs) s c
+  alone {c} same f g = stays same no
     where
-      not-differs : test (g .held) r ≡ false → ¬ Replaces Differs (calls s (newRoot o))
-      not-differs q (replaces {old} {new} h k d) =
+      no : ¬ AnotherOr item Differs (calls s c)
+      no (inl w) = f (w .0) (w .1)
+      no (inr (replaces {new} _ k _)) = g new k
+
+  root-does-to : {c : Call} {r : Root} → ((a : A) → ¬ BecomesTrusted (calls s c) (item a)) → TrustedBy s c (aRoot r)
+      → Does part item (AnotherOr item Differs) s c
+  root-does-to f (root {o} {r} g) = go (test (g .held) r) refl
+    where
+      now : part (next s (newRoot o)) ≡ dropIf (test (g .held) r) (part s)
+      now = ap part (root-after s o r g) ∙ dropped s (g .held) r
+
+      unchanged : test (g .held) r ≡ false → ¬ AnotherOr item Differs (calls s (newRoot o))
+      unchanged q (inl w) = f (w .0) (w .1)
+      unchanged q (inr (replaces {old} {new} h k d)) =
           let old-is : old ≡ g .held = one-held h (g .isHeld) in
           let new-is : new ≡ r = one-root (one-trusted k (by-trusted (root g))) in
           never (sym (exactly (g .held) r .1 (subst₂ Differs old-is new-is d)) ∙ q)
 
       go : (b : Bool) → test (g .held) r ≡ b → Does part item (AnotherOr item Differs) s (newRoot o)
       go true q = drops (now ∙ rw q) (inr (replaces (g .isHeld) (by-trusted (root g)) (exactly (g .held) r .0 q)))
-      go false q = stays (now ∙ rw q) (λ w. elim w [ inl x ↦ other (x .0) (x .1) | inr x ↦ not-differs q x ])
+      go false q = stays (now ∙ rw q) (unchanged q)
 
-module _ (s : State) (read : RootRead s) where
-  timestamp-trusted : {c : Call} {x : Item} → TrustedBy s c x → Does (λ s. s .timestamp) aTimestamp (AnotherOr aTimestamp OtherKeys) s c
-  unfolding withRoot withSnapshot withTargets
-  timestamp-trusted (root {o} {r} g) =
-      root-drops (λ s. s .timestamp) aTimestamp OtherKeys rotates rotates-exactly s o r g
-      (ap (λ (x : State). x .timestamp) (root-after s o r g)) (λ a k. elim (trusted-by s read k) [ ])
-  timestamp-trusted (timestamp {t} g) = let k = by-trusted (timestamp g) in trusts t k (left (timestamp g)) (inl (t, k))
-  timestamp-trusted (snapshot {o} {n} g) =
-      alone (λ s. s .timestamp) aTimestamp OtherKeys s (newSnapshot o) (ap (λ (x : State). x .timestamp) (snapshot-after s o n g))
-      (λ a k. elim (trusted-by s read k) [ ]) (λ r k. elim (trusted-by s read k) [ ])
-  timestamp-trusted (targets {o} {g = f} g) =
-      alone (λ s. s .timestamp) aTimestamp OtherKeys s (newTargets o) (ap (λ (x : State). x .timestamp) (targets-after s o f g))
-      (λ a k. elim (trusted-by s read k) [ ]) (λ r k. elim (trusted-by s read k) [ ])
+  trusted-does : {c : Call} {x : Item} → TrustedBy s c x → Touches part item s x → Does part item (AnotherOr item Differs) s c
+  trusted-does {c} k (own a e) =
+      let k′ = subst (λ y. BecomesTrusted (calls s c) y) e (by-trusted k) in
+      trusts a k′ (held s read c a k′) (inl (a, k′))
+  trusted-does {c} k (isRoot r e f) =
+      root-does-to (λ a k′. f a (one-trusted (by-trusted k) k′)) (subst (λ y. TrustedBy s c y) e k)
+  trusted-does k (other same f g) =
+      alone (ap part (trusted-next k) ∙ same) (λ a k′. f a (one-trusted (by-trusted k) k′)) (λ r k′. g r (one-trusted (by-trusted k) k′))
 
-  timestamp-does : (c : Call) → Does (λ s. s .timestamp) aTimestamp (AnotherOr aTimestamp OtherKeys) s c
-  timestamp-does c =
+  part-does : (c : Call) → Does part item (AnotherOr item Differs) s c
+  part-does c =
       elim (kind s read c) [
-        | inl k ↦ timestamp-trusted (k .1)
-        | inr i ↦ alone (λ s. s .timestamp) aTimestamp OtherKeys s c (idle-same s c i .timestamp) (λ a. i (aTimestamp a)) (λ r. i (aRoot r))
+        | inl k ↦ trusted-does (k .1) (touches s (k .0))
+        | inr i ↦ alone (idle s c (idle-same s c i)) (λ a. i (item a)) (λ r. i (aRoot r))
       ]
 
-  snapshot-trusted : {c : Call} {x : Item} → TrustedBy s c x → Does (λ s. s .snapshot) aSnapshot (AnotherOr aSnapshot OtherKeys) s c
-  unfolding withRoot withTimestamp withTargets
-  snapshot-trusted (root {o} {r} g) =
-      root-drops (λ s. s .snapshot) aSnapshot OtherKeys rotates rotates-exactly s o r g
-      (ap (λ (x : State). x .snapshot) (root-after s o r g)) (λ a k. elim (trusted-by s read k) [ ])
-  snapshot-trusted (timestamp {o} {t} g) =
-      alone (λ s. s .snapshot) aSnapshot OtherKeys s (newTimestamp o) (ap (λ (x : State). x .snapshot) (timestamp-after s o t g))
-      (λ a k. elim (trusted-by s read k) [ ]) (λ r k. elim (trusted-by s read k) [ ])
-  snapshot-trusted (snapshot {n} g) = let k = by-trusted (snapshot g) in trusts n k (left (snapshot g) .held) (inl (n, k))
-  snapshot-trusted (targets {o} {g = f} g) =
-      alone (λ s. s .snapshot) aSnapshot OtherKeys s (newTargets o) (ap (λ (x : State). x .snapshot) (targets-after s o f g))
-      (λ a k. elim (trusted-by s read k) [ ]) (λ r k. elim (trusted-by s read k) [ ])
+timestamp-touches : (s : State) (x : Item) → Touches (λ s. s .timestamp) aTimestamp s x
+unfolding trusting withSnapshot withTargets
+timestamp-touches s (aRoot r) = isRoot r refl (λ a e. never (cc))
+timestamp-touches s (aTimestamp t) = own t refl
+timestamp-touches s (aSnapshot n) = other refl (λ a e. never (cc)) (λ r e. never (cc))
+timestamp-touches s (aTargets g) = other refl (λ a e. never (cc)) (λ r e. never (cc))
 
-  snapshot-does : (c : Call) → Does (λ s. s .snapshot) aSnapshot (AnotherOr aSnapshot OtherKeys) s c
-  snapshot-does c =
-      elim (kind s read c) [
-        | inl k ↦ snapshot-trusted (k .1)
-        | inr i ↦ alone (λ s. s .snapshot) aSnapshot OtherKeys s c (idle-same s c i .snapshot) (λ a. i (aSnapshot a)) (λ r. i (aRoot r))
-      ]
+snapshot-touches : (s : State) (x : Item) → Touches (λ s. s .snapshot) aSnapshot s x
+unfolding trusting withTimestamp withTargets
+snapshot-touches s (aRoot r) = isRoot r refl (λ a e. never (cc))
+snapshot-touches s (aTimestamp t) = other refl (λ a e. never (cc)) (λ r e. never (cc))
+snapshot-touches s (aSnapshot n) = own n refl
+snapshot-touches s (aTargets g) = other refl (λ a e. never (cc)) (λ r e. never (cc))
 
-  targets-trusted : {c : Call} {x : Item} → TrustedBy s c x → Does (λ s. s .targets) aTargets (AnotherOr aTargets OtherTargetsKeys) s c
-  unfolding withRoot withTimestamp withSnapshot
-  targets-trusted (root {o} {r} g) =
-      root-drops (λ s. s .targets) aTargets OtherTargetsKeys rotatesTargets rotates-targets-exactly s o r g
-      (ap (λ (x : State). x .targets) (root-after s o r g)) (λ a k. elim (trusted-by s read k) [ ])
-  targets-trusted (timestamp {o} {t} g) =
-      alone (λ s. s .targets) aTargets OtherTargetsKeys s (newTimestamp o) (ap (λ (x : State). x .targets) (timestamp-after s o t g))
-      (λ a k. elim (trusted-by s read k) [ ]) (λ r k. elim (trusted-by s read k) [ ])
-  targets-trusted (snapshot {o} {n} g) =
-      alone (λ s. s .targets) aTargets OtherTargetsKeys s (newSnapshot o) (ap (λ (x : State). x .targets) (snapshot-after s o n g))
-      (λ a k. elim (trusted-by s read k) [ ]) (λ r k. elim (trusted-by s read k) [ ])
-  targets-trusted (targets {o} {g = f} g) =
-      let k = by-trusted (targets g) in
-      let kept = keepTargets f (o .digest) in
-      trusts kept k (left (targets g) .held) (inl (kept, k))
-
-  targets-does : (c : Call) → Does (λ s. s .targets) aTargets (AnotherOr aTargets OtherTargetsKeys) s c
-  targets-does c =
-      elim (kind s read c) [
-        | inl k ↦ targets-trusted (k .1)
-        | inr i ↦ alone (λ s. s .targets) aTargets OtherTargetsKeys s c (idle-same s c i .targets) (λ a. i (aTargets a)) (λ r. i (aRoot r))
-      ]
+targets-touches : (s : State) (x : Item) → Touches (λ s. s .targets) aTargets s x
+unfolding trusting withTimestamp withSnapshot
+targets-touches s (aRoot r) = isRoot r refl (λ a e. never (cc))
+targets-touches s (aTimestamp t) = other refl (λ a e. never (cc)) (λ r e. never (cc))
+targets-touches s (aSnapshot n) = other refl (λ a e. never (cc)) (λ r e. never (cc))
+targets-touches s (aTargets g) = own g refl
 
 -- ## What an accepted install leaves: its root, and nothing else
 
@@ -266,10 +247,6 @@ first-root o a r =
       λ k. left-installed k,
     )
 
-first-none : {A : Type 0} (part : State → Option A) (item : A → Item) (o : Install) → part (installed o) ≡ none
-    → ((a : A) → ¬ BecomesTrusted (begins o) (item a)) → (a : A) → (part (installed o) ≡ some a) ↔ BecomesTrusted (begins o) (item a)
-first-none part item o e f a = (λ h. none-not-some (sym e ∙ h), λ k. absurd (f a k))
-
 install-state : (o : Install) → installAnswer o ≡ 0 → (r : Root) × (installed o ≡ rootAlone r (o .start))
 install-state o a = let w = install-good o a in (w .0, install-after o (w .0) (w .1 .entries) (w .1 .reads) a)
 
@@ -279,26 +256,39 @@ pub root-held : (h : History) (r : Root) → (end h .root ≡ some r) ↔ LastOf
 root-held =
     held-exactly (λ s. s .root) aRoot (Another aRoot) root-does (λ s read c a k. left (trusted-by s read k)) first-root
 
+module _ {A : Type 0} (part : State → Option A) (item : A → Item) (Differs : Root → Root → Type 0) (test : Root → Root → Bool)
+    (exactly : (old new : Root) → (test old new ≡ true) ↔ Differs old new)
+    (dropped : (s : State) (old new : Root) → part (withRoot s old new) ≡ dropIf (test old new) (part s))
+    (touches : (s : State) (x : Item) → Touches part item s x)
+    (held : (s : State) → RootRead s → (c : Call) (a : A) → BecomesTrusted (calls s c) (item a) → part (next s c) ≡ some a)
+    (idle : (s : State) (c : Call) → SameRecords s (next s c) → part (next s c) ≡ part s)
+    (first : (r : Root) (start : ℤ) → part (rootAlone r start) ≡ none)
+    (no : (o : Install) (a : A) → ¬ BecomesTrusted (begins o) (item a)) where
+  part-held : (h : History) (a : A) → (part (end h) ≡ some a) ↔ LastOf (happened h) (item a) (AnotherOr item Differs)
+  part-held =
+      held-exactly part item (AnotherOr item Differs) (part-does part item Differs test exactly dropped touches held idle) held
+      (λ o ok a. (
+        λ e. let w = install-state o ok in none-not-some (sym (ap part (w .1) ∙ first (w .0) (o .start)) ∙ e),
+        λ k. absurd (no o a k),
+      ))
+
 pub timestamp-held : (h : History) (t : Timestamp) → (end h .timestamp ≡ some t)
     ↔ LastOf (happened h) (aTimestamp t) (AnotherOr aTimestamp OtherKeys)
-unfolding rootAlone
+unfolding withRoot rootAlone
 timestamp-held =
-    held-exactly (λ s. s .timestamp) aTimestamp (AnotherOr aTimestamp OtherKeys) timestamp-does
-    (λ s read c a k. left (trusted-by s read k))
-    (λ o a. first-none (λ s. s .timestamp) aTimestamp o (ap (λ (x : State). x .timestamp) (install-state o a .1)) (λ t k. elim k [ ]))
+    part-held (λ s. s .timestamp) aTimestamp OtherKeys rotates rotates-exactly (λ s old new. refl) timestamp-touches
+    (λ s read c a k. left (trusted-by s read k)) (λ s c e. e .timestamp) (λ r start. refl) (λ o a k. elim k [ ])
 
 pub snapshot-held : (h : History) (n : Snapshot) → (end h .snapshot ≡ some n)
     ↔ LastOf (happened h) (aSnapshot n) (AnotherOr aSnapshot OtherKeys)
-unfolding rootAlone
+unfolding withRoot rootAlone
 snapshot-held =
-    held-exactly (λ s. s .snapshot) aSnapshot (AnotherOr aSnapshot OtherKeys) snapshot-does
-    (λ s read c a k. left (trusted-by s read k) .held)
-    (λ o a. first-none (λ s. s .snapshot) aSnapshot o (ap (λ (x : State). x .snapshot) (install-state o a .1)) (λ t k. elim k [ ]))
+    part-held (λ s. s .snapshot) aSnapshot OtherKeys rotates rotates-exactly (λ s old new. refl) snapshot-touches
+    (λ s read c a k. left (trusted-by s read k) .held) (λ s c e. e .snapshot) (λ r start. refl) (λ o a k. elim k [ ])
 
 pub targets-held : (h : History) (g : Targets) → (end h .targets ≡ some g)
     ↔ LastOf (happened h) (aTargets g) (AnotherOr aTargets OtherTargetsKeys)
-unfolding rootAlone
+unfolding withRoot rootAlone
 targets-held =
-    held-exactly (λ s. s .targets) aTargets (AnotherOr aTargets OtherTargetsKeys) targets-does
-    (λ s read c a k. left (trusted-by s read k) .held)
-    (λ o a. first-none (λ s. s .targets) aTargets o (ap (λ (x : State). x .targets) (install-state o a .1)) (λ t k. elim k [ ]))
+    part-held (λ s. s .targets) aTargets OtherTargetsKeys rotatesTargets rotates-targets-exactly (λ s old new. refl) targets-touches
+    (λ s read c a k. left (trusted-by s read k) .held) (λ s c e. e .targets) (λ r start. refl) (λ o a k. elim k [ ])

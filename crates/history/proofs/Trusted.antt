@@ -8,7 +8,7 @@ use native.Mathlib.Decide.{ℕ-discrete}
 use Rattle.base.specs.Bytes.{Bytes}
 use Rattle.rules.specs.Records.{Image, File, says}
 use Rattle.rules.specs.State.{Root, Timestamp, Snapshot, State, keepTargets, rootIn, Install, RootOffer, TimestampOffer, FileOffer, Call, newCycle, newRoot, newTimestamp, newSnapshot, newTargets, find, askKey, askState}
-use Rattle.rules.specs.Steps.{answer, next, installAnswer, installed, rootAlone, withStart, withRoot, withTimestamp, withSnapshot, withTargets, Item, aRoot, aTimestamp, aSnapshot, aTargets, offered, started}
+use Rattle.rules.specs.Steps.{answer, next, installAnswer, installed, rootAlone, withStart, withRoot, withTimestamp, withSnapshot, withTargets, Item, aRoot, aTimestamp, aSnapshot, aTargets, afterRoot, trusting, offered, started}
 use Rattle.rules.specs.Exactly.{RootGood, TimestampGood, SnapshotGood, TargetsGood, RootRead}
 use Rattle.rules.specs.History.{calls, BecomesTrusted, atCall, Idle}
 use Rattle.rules.proofs.OptionLaws.{none-not-some}
@@ -57,6 +57,14 @@ by-trusted {s} (targets {o} {g = f} g) = atCall (targets-offered s o f g) (good-
 -- one file becomes trusted by a call
 pub one-trusted : {s : State} {c : Call} {x y : Item} → BecomesTrusted (calls s c) x → BecomesTrusted (calls s c) y → x ≡ y
 one-trusted (atCall e _) (atCall e′ _) = one-held e e′
+
+-- and enters the state
+pub trusted-next : {s : State} {c : Call} {x : Item} → TrustedBy s c x → next s c ≡ trusting s x
+unfolding trusting afterRoot
+trusted-next {s} (root {o} {r} g) = root-after s o r g ∙ rw (g .isHeld)
+trusted-next {s} (timestamp {o} {t} g) = timestamp-after s o t g
+trusted-next {s} (snapshot {o} {n} g) = snapshot-after s o n g
+trusted-next {s} (targets {o} {g = f} g) = targets-after s o f g
 
 -- ## A call by which no file becomes trusted
 
