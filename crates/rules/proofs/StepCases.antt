@@ -12,10 +12,11 @@ use Rattle.rules.specs.Records.{Role, Listed}
 use Rattle.rules.specs.State.{Root, Timestamp, Snapshot, State}
 use Rattle.rules.specs.Table.{first, absent}
 use Rattle.rules.specs.Steps.{rootTable, timestampTable, snapshotTable, targetsTable, findTable, withRoot}
+use Rattle.rules.specs.Asked.{imageTable, imageAnswer}
 use Rattle.rules.proofs.Cases.{Case, _gives_, Right, a, b, both}
 use Rattle.rules.proofs.Computing.{tables}
 
--- ## A small world: roots are signed by key a, the other files by key b
+-- ## Files and states: roots are signed by key a, the other files by key b
 
 abbrev pub only : Bytes → Role
 only k = record { keyids = k ∷ []; threshold = 1 }
@@ -152,6 +153,24 @@ answers =
 pub answers-right : Right answers
 unfolding tables
 answers-right = refl
+
+-- ## Image: "the found length and digest against the fetched ones"
+
+abbrev pub toImage : ℕ → ℕ → Bytes → ℕ
+toImage listedLength fetchedLength fetched =
+    imageAnswer (record { length = listedLength; digest = digest 5 }) (record { length = fetchedLength; digest = fetched })
+
+abbrev pub fetches : List (Case ℕ)
+fetches =
+    toImage 30 30 (digest 5) gives 0
+    ∷ toImage 30 31 (digest 5) gives 8
+    ∷ toImage 30 30 (digest 6) gives 8
+    ∷ toImage 30 31 (replicate 31 5) gives 5
+    ∷ []
+
+pub fetches-right : Right fetches
+unfolding tables imageTable imageAnswer
+fetches-right = refl
 
 -- ## What an accepted root drops: whether timestamp, snapshot, targets
 
