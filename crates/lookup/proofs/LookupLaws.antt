@@ -1,0 +1,61 @@
+-- The search for a member by name, one member after the other.
+use mathlib.Core.Path.{_≡_, refl, sym, ap, _∙_}
+use mathlib.Core.Option.{Option, none, some, bind}
+use mathlib.Core.Bool.{Bool, true, false, cond}
+use Prim.Native.Nat.{ℕ, suc, _≤_, _<_, _-_}
+use native.Mathlib.Omega.{arith}
+use lib.ListN.{length, drop}
+use Rattle.base.specs.Bytes.{Bytes, same}
+use Rattle.json.specs.Json.{Json, Members, mnil, mcons}
+use Rattle.json.specs.Read.{raw}
+use Rattle.json.specs.Fields.{members, lookup, field}
+use Rattle.lookup.specs.Place.{Stands, PlaceOf}
+use Rattle.lookup.specs.Walk.{MembersLeft, members-end, members-at, MembersOf, MemberAfter, FirstMember, NextMember}
+use Rattle.lookup.specs.declared.Found.the-variants as found
+use Rattle.lookup.specs.declared.Member.{Member}
+use Rattle.lookup.specs.declared.Member.the-variants.{NoObject, End, At}
+use Rattle.lookup.proofs.MemberLaws.{member-stands, member-name}
+
+-- o is what the members that are left at m hold under the name k
+abbrev pub Sought : Bytes → Bytes → Member → Option Json → Type 0
+Sought s k NoObject o = o ≡ none
+Sought s k End o = o ≡ none
+Sought s k (At i j) o = (n : Bytes) × (v : Json) × (ms : Members) × MembersLeft s (At i j) (mcons n v ms) × (o ≡ lookup k (mcons n v ms))
+
+-- what is left of the text, for the measure
+abbrev pub ahead : Bytes → Member → ℕ
+ahead s NoObject = 0
+ahead s End = 0
+ahead s (At i j) = suc (length s - j)
+
+module _ (s k : Bytes) where
+  left-sought : {m : Member} {ms : Members} → MembersLeft s m ms → Sought s k m (lookup k ms)
+  unfolding lookup
+  left-sought members-end = refl
+  left-sought (members-at {n = n} {v = v} {ms = ms} rest t u g) = (n, v, ms, members-at rest t u g, refl)
+
+  pub sought-first : {p : ℕ} {m : Member} → FirstMember s p m → (v : Json) → Stands s p v → Sought s k m (field k v)
+  unfolding field bind
+  sought-first {p} {m} w v h = go (members v) (w .means v h)
+    where
+      go : (o : Option Members) → MembersOf s m o → Sought s k m (bind o (lookup k))
+      go none e = rw e refl
+      go (some ms) l = left-sought l
+
+  module _ (i j : ℕ) (o : Option Json) (w : Sought s k (At i j) o) where
+    lookup-is : o ≡ cond (same (raw (drop i s)) k) (some (w .1)) (lookup k (w .2))
+    unfolding lookup
+    lookup-is = w .4 ∙ ap (λ (n : Bytes). cond (same n k) (some (w .1)) (lookup k (w .2))) (sym (member-name (w .3)))
+
+    pub sought-here : true ≡ same (raw (drop i s)) k → PlaceOf s (found.At j) o
+    sought-here e = (w .1, lookup-is ∙ rw (sym e) refl, member-stands (w .3))
+
+    pub sought-next : false ≡ same (raw (drop i s)) k → {m : Member} → NextMember s j m → Sought s k m o
+    sought-next e {m} x =
+        let q : o ≡ lookup k (w .2) = lookup-is ∙ rw (sym e) refl in
+        rw q (left-sought (x .means i (w .0) (w .1) (w .2) (w .3)))
+
+pub ahead-less : (s : Bytes) (i j : ℕ) (m : Member) → MemberAfter s j m → ahead s m < ahead s (At i j)
+ahead-less s i j NoObject a = omega arith
+ahead-less s i j End a = omega arith
+ahead-less s i j (At n v) a = let x = a .0 in let y = a .1 in let z = a .2 in omega arith

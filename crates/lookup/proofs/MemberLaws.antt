@@ -1,0 +1,157 @@
+-- The members of an object one after the other.
+use mathlib.Core.Path.{_≡_, refl, sym, ap, _∙_}
+use mathlib.Core.List.{[], _∷_}
+use mathlib.Core.Option.{Option, none, some}
+use mathlib.Core.Bool.{true, false}
+use Prim.Native.Nat.{ℕ, _≤_, _<_, _+_, _-_}
+use native.Mathlib.Omega.{arith}
+use lib.Dec.{eqb}
+use lib.ListN.{length, drop, getD}
+use Rattle.base.specs.Bytes.{Bytes}
+use Rattle.base.proofs.TestLaws.{never}
+use Rattle.json.specs.Json.{Json, jnull, jtrue, jfalse, num, str, arr, obj, Members, mnil, mcons, put, putStr, putBytes, putMoreMembers, Valid, ValidStr, ValidMembers, maxDepth}
+use Rattle.json.specs.Read.{Got, bad, got, endOf, also, read, readStr, kindOf, raw, NoDigit}
+use Rattle.json.specs.Fields.{members}
+use Rattle.json.specs.declared.Skip.the-variants as skip
+use Rattle.json.proofs.Puts.{put-null, put-true, put-false, put-num, put-str, put-arr, put-obj, members-nil, members-cons, more-members-nil, more-members-cons}
+use Rattle.json.proofs.Complete.{complete}
+use Rattle.json.proofs.Rest.{Located, located, chars-fits, refused}
+use Rattle.lookup.specs.Place.{Stands}
+use Rattle.lookup.specs.Walk.{closes, opens, Follows, MemberAt, MemberAfter, MembersLeft, members-end, members-at, MembersOf}
+use Rattle.lookup.specs.declared.Element.{Element}
+use Rattle.lookup.specs.declared.Element.the-variants as element
+use Rattle.lookup.specs.declared.Member.{Member}
+use Rattle.lookup.specs.declared.Member.the-variants as member
+use Rattle.lookup.proofs.Deeper.{deeper}
+use Rattle.lookup.proofs.FirstByte.{digit-not, first-digit}
+use Rattle.lookup.proofs.StandsLaws.{there, rest-at}
+use Rattle.lookup.proofs.ItemLaws.{closes-end, closes-on, opens-on, closed-text}
+use Rattle.lookup.proofs.StringLaws.{raw-bytes}
+
+-- ## One member
+
+-- a name is read up to its closing quote
+name-read : (n r : Bytes) → ValidStr n → NoDigit r → readStr (putBytes n (34 ∷ r)) ≡ got n r
+unfolding Valid read kindOf
+name-read n r g f =
+    let k : also str (readStr (putBytes n (34 ∷ r))) ≡ got (str n) r = rw put-str at (complete (str n) 0 r g f) in
+    go (readStr (putBytes n (34 ∷ r))) k
+  where
+    go : (x : Got Bytes) → also str x ≡ got (str n) r → x ≡ got n r
+    go bad e = let z : _≡_ {A = ℕ} 0 1 = cc in absurd (omega arith)
+    go (got a q) e = cc
+
+-- the text of the members from one on
+abbrev MemberText : Bytes → Json → Members → Bytes → Bytes
+MemberText n v ms rest = putStr n (58 ∷ put v (putMoreMembers ms (125 ∷ rest)))
+
+module _ (s : Bytes) (i : ℕ) (n : Bytes) (v : Json) (ms : Members) (rest : Bytes) (t : drop i s ≡ MemberText n v ms rest) (g : ValidMembers (mcons n v ms) maxDepth) where
+  pub quote-cut : length s ≤ i → ⊥
+  quote-cut l = let k = there s i 34 _ t .0 in omega arith
+
+  named : readStr (drop (i + 1) s) ≡ got n (58 ∷ put v (putMoreMembers ms (125 ∷ rest)))
+  unfolding Valid
+  named = ap (λ (x : Bytes). readStr x) (there s i 34 _ t .2) ∙ name-read n _ (g .0) refl
+
+  pub name-found : endOf (length s) (readStr (drop (i + 1) s)) ≡ skip.No → ⊥
+  name-found q =
+      let k : bad ≡ got n (58 ∷ put v (putMoreMembers ms (125 ∷ rest))) = sym (refused (length s) (readStr (drop (i + 1) s)) q) ∙ named in
+      let z : _≡_ {A = ℕ} 0 1 = cc in omega arith
+
+  module _ (e : ℕ) (q : endOf (length s) (readStr (drop (i + 1) s)) ≡ skip.End e) where
+    colon : (e < length s) × (getD s e 0 ≡ 58) × (drop (e + 1) s ≡ put v (putMoreMembers ms (125 ∷ rest)))
+    colon =
+        let l = located s (i + 1) e (chars-fits (drop (i + 1) s) 0 0 0) q in
+        let k : got (l .value) (drop e s) ≡ got n (58 ∷ put v (putMoreMembers ms (125 ∷ rest))) = sym (l .is) ∙ named in
+        there s e 58 _ (cc)
+
+    pub colon-cut : length s ≤ e → ⊥
+    colon-cut l = let k = colon .0 in omega arith
+
+    pub member-there : MembersLeft s (member.At (i + 1) (e + 1)) (mcons n v ms)
+    member-there = members-at rest (there s i 34 _ t .2 ∙ ap (λ (x : Bytes). putBytes n (34 ∷ 58 ∷ x)) (sym (colon .2))) (colon .2) g
+
+-- where a name's end is, so is its value
+pub name-ends : (s : Bytes) (i e : ℕ) → endOf (length s) (readStr (drop i s)) ≡ skip.End e → i < e
+name-ends s i e q = located s i e (chars-fits (drop i s) 0 0 0) q .after
+
+-- a member that was found
+pub member-after : (s : Bytes) (p : ℕ) (r : Member) → MemberAfter s p r → (i j : ℕ) → r ≡ member.At i j → (p < i) × (i < j) × (j ≤ length s)
+member-after s p r a i j q = rw q at a
+
+pub after-later : (s : Bytes) (p i : ℕ) → p ≤ i → (r : Member) → MemberAfter s i r → MemberAfter s p r
+after-later s p i h member.NoObject a = tt
+after-later s p i h member.End a = tt
+after-later s p i h (member.At n v) a = let z = a .0 in (omega arith, a .1, a .2)
+
+-- ## Members in order
+
+pub more-members-free : (ms : Members) (r : Bytes) → NoDigit (putMoreMembers ms (125 ∷ r))
+more-members-free mnil r = rw more-members-nil refl
+more-members-free (mcons n v ms) r = rw more-members-cons refl
+
+member-before : (s : Bytes) (j : ℕ) (n : Bytes) (v : Json) (ms : Members) (rest : Bytes) → drop j s ≡ put v (putMoreMembers ms (125 ∷ rest)) → ValidMembers (mcons n v ms) maxDepth → Stands s j v
+unfolding Valid
+member-before s j n v ms rest t g = record { rest = putMoreMembers ms (125 ∷ rest); text = t; free = more-members-free ms rest; valid = g .1 }
+
+-- a member that is the first of those left: its value stands at its place, and its name is read at its own
+module _ {s : Bytes} {i j : ℕ} {n : Bytes} {v : Json} {ms : Members} where
+  pub member-stands : MembersLeft s (member.At i j) (mcons n v ms) → Stands s j v
+  member-stands (members-at rest t u g) = member-before s j n v ms rest u g
+
+  pub member-name : MembersLeft s (member.At i j) (mcons n v ms) → raw (drop i s) ≡ n
+  member-name (members-at rest t u g) = ap raw t ∙ raw-bytes n _
+
+-- what stands past a bracket or a comma
+pub data MembersOpen (s : Bytes) : Element → Option Members → Type 0 where
+  open-none : MembersOpen s element.NoArray none
+  open-end : MembersOpen s element.End (some mnil)
+  open-at : {i : ℕ} {n : Bytes} {v : Json} {ms : Members} (rest : Bytes) → drop i s ≡ MemberText n v ms rest → ValidMembers (mcons n v ms) maxDepth
+    → MembersOpen s (element.At i) (some (mcons n v ms))
+
+-- what the program makes of it
+abbrev pub MemberBy : Bytes → Element → Member → Type 0
+MemberBy s element.NoArray r = r ≡ member.NoObject
+MemberBy s element.End r = r ≡ member.End
+MemberBy s (element.At i) r = MemberAt s i r
+
+pub members-by : (s : Bytes) (r : Member) {e : Element} {o : Option Members} → MembersOpen s e o → MemberBy s e r → MembersOf s r o
+members-by s r open-none b = b
+members-by s r open-end b = rw b members-end
+members-by s r (open-at {n = n} {v = v} {ms = ms} rest t g) b = b .means n v ms rest t g
+
+module _ (s : Bytes) (p : ℕ) where
+  pub first-members : (v : Json) → Stands s p v → MembersOpen s (opens 123 125 p (drop p s)) (members v)
+  unfolding members Valid
+  first-members jnull h = rw (closed-text 123 125 p s _ _ (h .text ∙ put-null _) refl) open-none
+  first-members jtrue h = rw (closed-text 123 125 p s _ _ (h .text ∙ put-true _) refl) open-none
+  first-members jfalse h = rw (closed-text 123 125 p s _ _ (h .text ∙ put-false _) refl) open-none
+  first-members (num true ds) h = rw (closed-text 123 125 p s _ _ (h .text ∙ put-num true ds _) refl) open-none
+  first-members (num false []) h = never (sym (h .valid))
+  first-members (num false (b ∷ ds)) h = rw (closed-text 123 125 p s _ _ (h .text ∙ put-num false (b ∷ ds) _) (digit-not b 123 (first-digit false b ds (h .valid)) refl)) open-none
+  first-members (str b) h = rw (closed-text 123 125 p s _ _ (h .text ∙ put-str b _) refl) open-none
+  first-members (arr xs) h = rw (closed-text 123 125 p s _ _ (h .text ∙ put-arr xs _) refl) open-none
+  first-members (obj mnil) h =
+      let k : opens 123 125 p (drop p s) ≡ element.End = ap (λ (x : Bytes). opens 123 125 p x) (h .text ∙ put-obj mnil _) ∙ opens-on 123 125 p _ ∙ rw members-nil (closes-end 125 (p + 1) _) in
+      rw k open-end
+  first-members (obj (mcons n u ms)) h =
+      let g : ValidMembers (mcons n u ms) maxDepth = deeper (obj (mcons n u ms)) maxDepth (h .valid) in
+      let e : drop p s ≡ 123 ∷ MemberText n u ms (h .rest) = h .text ∙ put-obj (mcons n u ms) _ ∙ ap (λ (x : Bytes). 123 ∷ x) (members-cons n u ms _) in
+      let k : opens 123 125 p (drop p s) ≡ element.At (p + 1) = ap (λ (x : Bytes). opens 123 125 p x) e ∙ opens-on 123 125 p _ ∙ closes-on 125 (p + 1) 34 _ refl in
+      rw k (open-at (h .rest) (there s p 123 _ e .2) g)
+
+  pub next-members : {r : Element} → Follows s p 125 r → (i : ℕ) (n : Bytes) (v : Json) (ms : Members) → MembersLeft s (member.At i p) (mcons n v ms) → MembersOpen s r (some ms)
+  unfolding Valid member-before
+  next-members {r} w i n v ms l = go ms l
+    where
+      go : (us : Members) → MembersLeft s (member.At i p) (mcons n v us) → MembersOpen s r (some us)
+      go mnil (members-at rest t u g) =
+          let h = member-before s p n v mnil rest u g in
+          let k : r ≡ element.End = w .means v h ∙ ap (λ (x : Bytes). closes 125 (length s - length (h .rest) + 1) x) (more-members-nil _) ∙ closes-end 125 _ _ in
+          rw k open-end
+      go (mcons m x us) (members-at rest t u g) =
+          let h = member-before s p n v (mcons m x us) rest u g in
+          let e = length s - length (h .rest) in
+          let c = more-members-cons m x us (125 ∷ rest) in
+          let k : r ≡ element.At (e + 1) = w .means v h ∙ ap (λ (x : Bytes). closes 125 (e + 1) x) c ∙ closes-on 125 (e + 1) 44 _ refl in
+          rw k (open-at rest (there s e 44 _ (rest-at s p v h ∙ c) .2) (g .2 .1, g .2 .2, g .2 .3))
