@@ -6,6 +6,7 @@ use Rattle.json.specs.Json.{Json, jnull, jtrue, jfalse, num, str, arr, obj, Ite
 
 mutual
   unfolding Valid
+
   pub deeper : (v : Json) (d : ℕ) → Valid v d → Valid v (suc d)
   deeper jnull d g = tt
   deeper jtrue d g = tt

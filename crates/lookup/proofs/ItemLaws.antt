@@ -14,7 +14,7 @@ use Rattle.json.specs.Read.{NoDigit}
 use Rattle.json.specs.Fields.{items}
 use Rattle.json.proofs.Puts.{put-null, put-true, put-false, put-num, put-str, put-arr, put-obj, items-nil, items-cons, more-items-nil, more-items-cons}
 use Rattle.lookup.specs.Place.{Stands, EndsAt}
-use Rattle.lookup.specs.Walk.{closes, opens, ItemsLeft, items-end, items-at, ItemsOf, ElementAfter, Follows}
+use Rattle.lookup.specs.Walk.{closes, opens, Opens, ItemsLeft, items-end, items-at, ItemsOf, ElementAfter, Follows}
 use Rattle.lookup.specs.declared.Found.{Found}
 use Rattle.lookup.specs.declared.Found.the-variants as found
 use Rattle.lookup.specs.declared.Element.{Element}
@@ -71,7 +71,7 @@ closed-text start close p s b t e f = ap (λ (x : Bytes). opens start close p x)
 
 -- what follows a value, by where it ends
 pub follows-by : (s : Bytes) (p close : ℕ) {f : Found} → EndsAt s p f → (e : ℕ) → f ≡ found.At e → (r : Element) → r ≡ closes close (e + 1) (drop e s)
-  → (v : Json) (h : Stands s p v) → r ≡ closes close (length s - length (h .rest) + 1) (h .rest)
+    → (v : Json) (h : Stands s p v) → r ≡ closes close (length s - length (h .rest) + 1) (h .rest)
 follows-by s p close w e q r k v h =
     k ∙ ap (λ (n : ℕ). closes close (n + 1) (drop n s)) (end-is s p v h w e q)
     ∙ ap (λ (t : Bytes). closes close (length s - length (h .rest) + 1) t) (rest-at s p v h)
@@ -95,26 +95,26 @@ pub item-stands : {s : Bytes} {i : ℕ} {v : Json} {vs : Items} → ItemsLeft s 
 item-stands {s} {i} {v} {vs} (items-at rest t g) = item-before s i v vs rest t g
 
 module _ (s : Bytes) (p : ℕ) where
-  pub first-items : (r : Element) → r ≡ opens 91 93 p (drop p s) → (v : Json) → Stands s p v → ItemsOf s r (items v)
+  pub first-items : {r : Element} → Opens s p 91 93 r → (v : Json) → Stands s p v → ItemsOf s r (items v)
   unfolding items Valid
-  first-items r q jnull h = q ∙ closed-text 91 93 p s _ _ (h .text ∙ put-null _) refl
-  first-items r q jtrue h = q ∙ closed-text 91 93 p s _ _ (h .text ∙ put-true _) refl
-  first-items r q jfalse h = q ∙ closed-text 91 93 p s _ _ (h .text ∙ put-false _) refl
-  first-items r q (num true ds) h = q ∙ closed-text 91 93 p s _ _ (h .text ∙ put-num true ds _) refl
-  first-items r q (num false []) h = never (sym (h .valid))
-  first-items r q (num false (b ∷ ds)) h = q ∙ closed-text 91 93 p s _ _ (h .text ∙ put-num false (b ∷ ds) _) (digit-not b 91 (first-digit false b ds (h .valid)) refl)
-  first-items r q (str b) h = q ∙ closed-text 91 93 p s _ _ (h .text ∙ put-str b _) refl
-  first-items r q (arr inil) h =
-      let k : r ≡ End = q ∙ ap (λ (x : Bytes). opens 91 93 p x) (h .text ∙ put-arr inil _) ∙ opens-on 91 93 p _ ∙ rw items-nil (closes-end 93 (p + 1) _) in
+  first-items o jnull h = o .is ∙ closed-text 91 93 p s _ _ (h .text ∙ put-null _) refl
+  first-items o jtrue h = o .is ∙ closed-text 91 93 p s _ _ (h .text ∙ put-true _) refl
+  first-items o jfalse h = o .is ∙ closed-text 91 93 p s _ _ (h .text ∙ put-false _) refl
+  first-items o (num true ds) h = o .is ∙ closed-text 91 93 p s _ _ (h .text ∙ put-num true ds _) refl
+  first-items o (num false []) h = never (sym (h .valid))
+  first-items o (num false (b ∷ ds)) h = o .is ∙ closed-text 91 93 p s _ _ (h .text ∙ put-num false (b ∷ ds) _) (digit-not b 91 (first-digit false b ds (h .valid)) refl)
+  first-items o (str b) h = o .is ∙ closed-text 91 93 p s _ _ (h .text ∙ put-str b _) refl
+  first-items {r} o (arr inil) h =
+      let k : r ≡ End = o .is ∙ ap (λ (x : Bytes). opens 91 93 p x) (h .text ∙ put-arr inil _) ∙ opens-on 91 93 p _ ∙ rw items-nil (closes-end 93 (p + 1) _) in
       rw k items-end
-  first-items r q (arr (icons u us)) h =
+  first-items {r} o (arr (icons u us)) h =
       let g : ValidItems (icons u us) maxDepth = deeper (arr (icons u us)) maxDepth (h .valid) in
       let t = putMoreItems us (93 ∷ h .rest) in
       let b = begins u maxDepth t (g .0) in
       let e : drop p s ≡ 91 ∷ put u t = h .text ∙ put-arr (icons u us) _ ∙ ap (λ (x : Bytes). 91 ∷ x) (items-cons u us _) in
-      let k : r ≡ At (p + 1) = q ∙ ap (λ (x : Bytes). opens 91 93 p x) e ∙ opens-on 91 93 p _ ∙ ap (λ (x : Bytes). closes 93 (p + 1) x) (b .is) ∙ closes-on 93 (p + 1) _ _ (b .goes-on) in
+      let k : r ≡ At (p + 1) = o .is ∙ ap (λ (x : Bytes). opens 91 93 p x) e ∙ opens-on 91 93 p _ ∙ ap (λ (x : Bytes). closes 93 (p + 1) x) (b .is) ∙ closes-on 93 (p + 1) _ _ (b .goes-on) in
       rw k (items-at (h .rest) (there s p 91 _ e .2) g)
-  first-items r q (obj ms) h = q ∙ closed-text 91 93 p s _ _ (h .text ∙ put-obj ms _) refl
+  first-items o (obj ms) h = o .is ∙ closed-text 91 93 p s _ _ (h .text ∙ put-obj ms _) refl
 
   pub next-items : {r : Element} → Follows s p 93 r → (v : Json) (vs : Items) → ItemsLeft s (At p) (icons v vs) → ItemsLeft s r vs
   unfolding Valid item-before

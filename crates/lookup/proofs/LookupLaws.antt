@@ -42,20 +42,33 @@ module _ (s k : Bytes) where
       go none e = rw e refl
       go (some ms) l = left-sought l
 
-  module _ (i j : ℕ) (o : Option Json) (w : Sought s k (At i j) o) where
-    lookup-is : o ≡ cond (same (raw (drop i s)) k) (some (w .1)) (lookup k (w .2))
-    unfolding lookup
-    lookup-is = w .4 ∙ ap (λ (n : Bytes). cond (same n k) (some (w .1)) (lookup k (w .2))) (sym (member-name (w .3)))
+  module _ (m : Member) (o : Option Json) (w : Sought s k m o) where
+    pub sought-none : m ≡ NoObject → o ≡ none
+    sought-none q = rw q at w
 
-    pub sought-here : true ≡ same (raw (drop i s)) k → PlaceOf s (found.At j) o
-    sought-here e = (w .1, lookup-is ∙ rw (sym e) refl, member-stands (w .3))
+    pub sought-end : m ≡ End → o ≡ none
+    sought-end q = rw q at w
 
-    pub sought-next : false ≡ same (raw (drop i s)) k → {m : Member} → NextMember s j m → Sought s k m o
-    sought-next e {m} x =
-        let q : o ≡ lookup k (w .2) = lookup-is ∙ rw (sym e) refl in
-        rw q (left-sought (x .means i (w .0) (w .1) (w .2) (w .3)))
+    module _ (i j : ℕ) (q : m ≡ At i j) where
+      here : Sought s k (At i j) o
+      here = rw q at w
 
-pub ahead-less : (s : Bytes) (i j : ℕ) (m : Member) → MemberAfter s j m → ahead s m < ahead s (At i j)
-ahead-less s i j NoObject a = omega arith
-ahead-less s i j End a = omega arith
-ahead-less s i j (At n v) a = let x = a .0 in let y = a .1 in let z = a .2 in omega arith
+      lookup-is : o ≡ cond (same (raw (drop i s)) k) (some (here .1)) (lookup k (here .2))
+      unfolding lookup
+      lookup-is = here .4 ∙ ap (λ (n : Bytes). cond (same n k) (some (here .1)) (lookup k (here .2))) (sym (member-name (here .3)))
+
+      pub sought-here : true ≡ same (raw (drop i s)) k → PlaceOf s (found.At j) o
+      sought-here e = (here .1, lookup-is ∙ rw (sym e) refl, member-stands (here .3))
+
+      pub sought-next : false ≡ same (raw (drop i s)) k → {x : Member} → NextMember s j x → Sought s k x o
+      sought-next e {x} n =
+          let r : o ≡ lookup k (here .2) = lookup-is ∙ rw (sym e) refl in
+          rw r (left-sought (n .means i (here .0) (here .1) (here .2) (here .3)))
+
+pub ahead-less : (s : Bytes) (m : Member) (i j : ℕ) → m ≡ At i j → (x : Member) → MemberAfter s j x → ahead s x < ahead s m
+ahead-less s m i j q x a = rw q (go x a)
+  where
+    go : (x : Member) → MemberAfter s j x → ahead s x < suc (length s - j)
+    go NoObject a = omega arith
+    go End a = omega arith
+    go (At n v) a = let x = a .0 in let y = a .1 in let z = a .2 in omega arith

@@ -17,7 +17,7 @@ use Rattle.json.proofs.Puts.{put-null, put-true, put-false, put-num, put-str, p
 use Rattle.json.proofs.Complete.{complete}
 use Rattle.json.proofs.Rest.{Located, located, chars-fits, refused}
 use Rattle.lookup.specs.Place.{Stands}
-use Rattle.lookup.specs.Walk.{closes, opens, Follows, MemberAt, MemberAfter, MembersLeft, members-end, members-at, MembersOf}
+use Rattle.lookup.specs.Walk.{closes, opens, Opens, Follows, MemberAt, MemberAfter, MembersLeft, members-end, members-at, MembersOf}
 use Rattle.lookup.specs.declared.Element.{Element}
 use Rattle.lookup.specs.declared.Element.the-variants as element
 use Rattle.lookup.specs.declared.Member.{Member}
@@ -71,15 +71,14 @@ module _ (s : Bytes) (i : ℕ) (n : Bytes) (v : Json) (ms : Members) (rest : Byt
     pub member-there : MembersLeft s (member.At (i + 1) (e + 1)) (mcons n v ms)
     member-there = members-at rest (there s i 34 _ t .2 ∙ ap (λ (x : Bytes). putBytes n (34 ∷ 58 ∷ x)) (sym (colon .2))) (colon .2) g
 
--- where a name's end is, so is its value
-pub name-ends : (s : Bytes) (i e : ℕ) → endOf (length s) (readStr (drop i s)) ≡ skip.End e → i < e
-name-ends s i e q = located s i e (chars-fits (drop i s) 0 0 0) q .after
+pub name-after : (s : Bytes) (i e : ℕ) → endOf (length s) (readStr (drop (i + 1) s)) ≡ skip.End e → e < length s → MemberAfter s i (member.At (i + 1) (e + 1))
+name-after s i e q h = let k = located s (i + 1) e (chars-fits (drop (i + 1) s) 0 0 0) q .after in (omega arith, omega arith, omega arith)
 
 -- a member that was found
 pub member-after : (s : Bytes) (p : ℕ) (r : Member) → MemberAfter s p r → (i j : ℕ) → r ≡ member.At i j → (p < i) × (i < j) × (j ≤ length s)
 member-after s p r a i j q = rw q at a
 
-pub after-later : (s : Bytes) (p i : ℕ) → p ≤ i → (r : Member) → MemberAfter s i r → MemberAfter s p r
+pub after-later : (s : Bytes) (p i : ℕ) → p < i → (r : Member) → MemberAfter s i r → MemberAfter s p r
 after-later s p i h member.NoObject a = tt
 after-later s p i h member.End a = tt
 after-later s p i h (member.At n v) a = let z = a .0 in (omega arith, a .1, a .2)
@@ -103,44 +102,44 @@ module _ {s : Bytes} {i j : ℕ} {n : Bytes} {v : Json} {ms : Members} where
   member-name (members-at rest t u g) = ap raw t ∙ raw-bytes n _
 
 -- what stands past a bracket or a comma
-pub data MembersOpen (s : Bytes) : Element → Option Members → Type 0 where
+data MembersOpen (s : Bytes) : Element → Option Members → Type 0 where
   open-none : MembersOpen s element.NoArray none
   open-end : MembersOpen s element.End (some mnil)
   open-at : {i : ℕ} {n : Bytes} {v : Json} {ms : Members} (rest : Bytes) → drop i s ≡ MemberText n v ms rest → ValidMembers (mcons n v ms) maxDepth
-    → MembersOpen s (element.At i) (some (mcons n v ms))
+      → MembersOpen s (element.At i) (some (mcons n v ms))
 
 -- what the program makes of it
-abbrev pub MemberBy : Bytes → Element → Member → Type 0
-MemberBy s element.NoArray r = r ≡ member.NoObject
-MemberBy s element.End r = r ≡ member.End
-MemberBy s (element.At i) r = MemberAt s i r
+pub data MemberBy (s : Bytes) : Element → Member → Type 0 where
+  by-none : MemberBy s element.NoArray member.NoObject
+  by-end : MemberBy s element.End member.End
+  by-at : {i : ℕ} {r : Member} → MemberAt s i r → MemberBy s (element.At i) r
 
-pub members-by : (s : Bytes) (r : Member) {e : Element} {o : Option Members} → MembersOpen s e o → MemberBy s e r → MembersOf s r o
-members-by s r open-none b = b
-members-by s r open-end b = rw b members-end
-members-by s r (open-at {n = n} {v = v} {ms = ms} rest t g) b = b .means n v ms rest t g
+members-by : {s : Bytes} {r : Member} {e : Element} {o : Option Members} → MembersOpen s e o → MemberBy s e r → MembersOf s r o
+members-by open-none by-none = refl
+members-by open-end by-end = members-end
+members-by (open-at {n = n} {v = v} {ms = ms} rest t g) (by-at m) = m .means n v ms rest t g
 
 module _ (s : Bytes) (p : ℕ) where
-  pub first-members : (v : Json) → Stands s p v → MembersOpen s (opens 123 125 p (drop p s)) (members v)
+  first-members : {e : Element} → Opens s p 123 125 e → (v : Json) → Stands s p v → MembersOpen s e (members v)
   unfolding members Valid
-  first-members jnull h = rw (closed-text 123 125 p s _ _ (h .text ∙ put-null _) refl) open-none
-  first-members jtrue h = rw (closed-text 123 125 p s _ _ (h .text ∙ put-true _) refl) open-none
-  first-members jfalse h = rw (closed-text 123 125 p s _ _ (h .text ∙ put-false _) refl) open-none
-  first-members (num true ds) h = rw (closed-text 123 125 p s _ _ (h .text ∙ put-num true ds _) refl) open-none
-  first-members (num false []) h = never (sym (h .valid))
-  first-members (num false (b ∷ ds)) h = rw (closed-text 123 125 p s _ _ (h .text ∙ put-num false (b ∷ ds) _) (digit-not b 123 (first-digit false b ds (h .valid)) refl)) open-none
-  first-members (str b) h = rw (closed-text 123 125 p s _ _ (h .text ∙ put-str b _) refl) open-none
-  first-members (arr xs) h = rw (closed-text 123 125 p s _ _ (h .text ∙ put-arr xs _) refl) open-none
-  first-members (obj mnil) h =
-      let k : opens 123 125 p (drop p s) ≡ element.End = ap (λ (x : Bytes). opens 123 125 p x) (h .text ∙ put-obj mnil _) ∙ opens-on 123 125 p _ ∙ rw members-nil (closes-end 125 (p + 1) _) in
+  first-members o jnull h = rw (o .is ∙ closed-text 123 125 p s _ _ (h .text ∙ put-null _) refl) open-none
+  first-members o jtrue h = rw (o .is ∙ closed-text 123 125 p s _ _ (h .text ∙ put-true _) refl) open-none
+  first-members o jfalse h = rw (o .is ∙ closed-text 123 125 p s _ _ (h .text ∙ put-false _) refl) open-none
+  first-members o (num true ds) h = rw (o .is ∙ closed-text 123 125 p s _ _ (h .text ∙ put-num true ds _) refl) open-none
+  first-members o (num false []) h = never (sym (h .valid))
+  first-members o (num false (b ∷ ds)) h = rw (o .is ∙ closed-text 123 125 p s _ _ (h .text ∙ put-num false (b ∷ ds) _) (digit-not b 123 (first-digit false b ds (h .valid)) refl)) open-none
+  first-members o (str b) h = rw (o .is ∙ closed-text 123 125 p s _ _ (h .text ∙ put-str b _) refl) open-none
+  first-members o (arr xs) h = rw (o .is ∙ closed-text 123 125 p s _ _ (h .text ∙ put-arr xs _) refl) open-none
+  first-members {e} o (obj mnil) h =
+      let k : e ≡ element.End = o .is ∙ ap (λ (x : Bytes). opens 123 125 p x) (h .text ∙ put-obj mnil _) ∙ opens-on 123 125 p _ ∙ rw members-nil (closes-end 125 (p + 1) _) in
       rw k open-end
-  first-members (obj (mcons n u ms)) h =
+  first-members {e} o (obj (mcons n u ms)) h =
       let g : ValidMembers (mcons n u ms) maxDepth = deeper (obj (mcons n u ms)) maxDepth (h .valid) in
-      let e : drop p s ≡ 123 ∷ MemberText n u ms (h .rest) = h .text ∙ put-obj (mcons n u ms) _ ∙ ap (λ (x : Bytes). 123 ∷ x) (members-cons n u ms _) in
-      let k : opens 123 125 p (drop p s) ≡ element.At (p + 1) = ap (λ (x : Bytes). opens 123 125 p x) e ∙ opens-on 123 125 p _ ∙ closes-on 125 (p + 1) 34 _ refl in
-      rw k (open-at (h .rest) (there s p 123 _ e .2) g)
+      let q : drop p s ≡ 123 ∷ MemberText n u ms (h .rest) = h .text ∙ put-obj (mcons n u ms) _ ∙ ap (λ (x : Bytes). 123 ∷ x) (members-cons n u ms _) in
+      let k : e ≡ element.At (p + 1) = o .is ∙ ap (λ (x : Bytes). opens 123 125 p x) q ∙ opens-on 123 125 p _ ∙ closes-on 125 (p + 1) 34 _ refl in
+      rw k (open-at (h .rest) (there s p 123 _ q .2) g)
 
-  pub next-members : {r : Element} → Follows s p 125 r → (i : ℕ) (n : Bytes) (v : Json) (ms : Members) → MembersLeft s (member.At i p) (mcons n v ms) → MembersOpen s r (some ms)
+  next-members : {r : Element} → Follows s p 125 r → (i : ℕ) (n : Bytes) (v : Json) (ms : Members) → MembersLeft s (member.At i p) (mcons n v ms) → MembersOpen s r (some ms)
   unfolding Valid member-before
   next-members {r} w i n v ms l = go ms l
     where
@@ -155,3 +154,10 @@ module _ (s : Bytes) (p : ℕ) where
           let c = more-members-cons m x us (125 ∷ rest) in
           let k : r ≡ element.At (e + 1) = w .means v h ∙ ap (λ (x : Bytes). closes 125 (e + 1) x) c ∙ closes-on 125 (e + 1) 44 _ refl in
           rw k (open-at rest (there s e 44 _ (rest-at s p v h ∙ c) .2) (g .2 .1, g .2 .2, g .2 .3))
+
+  pub first-by : {e : Element} {r : Member} → Opens s p 123 125 e → MemberBy s e r → (v : Json) → Stands s p v → MembersOf s r (members v)
+  first-by o b v h = members-by (first-members o v h) b
+
+  pub next-by : {e : Element} {r : Member} → Follows s p 125 e → MemberBy s e r
+      → (i : ℕ) (n : Bytes) (v : Json) (ms : Members) → MembersLeft s (member.At i p) (mcons n v ms) → MembersLeft s r ms
+  next-by w b i n v ms l = members-by (next-members w i n v ms l) b

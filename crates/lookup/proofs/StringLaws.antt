@@ -20,7 +20,7 @@ use Rattle.json.specs.Fields.{text}
 use Rattle.json.proofs.Puts.{put-null, put-true, put-false, put-num, put-str, put-arr, put-obj}
 use Rattle.json.proofs.CharsLaws.{neither}
 use Rattle.lookup.specs.Place.{Stands}
-use Rattle.lookup.specs.Leaves.{stringIn, copied}
+use Rattle.lookup.specs.Leaves.{stringIn, copied, Copies}
 use Rattle.lookup.specs.declared.Found.{Found}
 use Rattle.lookup.specs.declared.Found.the-variants.{Nothing, At}
 use Rattle.lookup.proofs.FirstByte.{digit-not, first-digit}
@@ -151,3 +151,10 @@ module _ (t buffer : Bytes) where
 
 pub set-next : (out : Bytes) (n b : ℕ) (left t : Bytes) → left ≡ b ∷ t → sets out n left ≡ sets (set out n b) (n + 1) t
 set-next out n b left t e = rw (e, add-one)
+
+module _ (t buffer : Bytes) where
+  pub copy-refused : length buffer < length t → Copies t buffer false buffer
+  copy-refused h = record { fits = sym (lt-leb (length t) (length buffer) h); is = sym (copied-not t buffer h) }
+
+  pub copy-done : length t ≤ length buffer → (out : Bytes) (n : ℕ) (left : Bytes) → copied t buffer ≡ sets out n left → left ≡ [] → Copies t buffer true out
+  copy-done h out n left e f = record { fits = sym (le-leb (length t) (length buffer) h); is = sym (e ∙ ap (λ (x : Bytes). sets out n x) f) }

@@ -2,7 +2,6 @@
 use borrow.Author.Needs.{needs}
 use mathlib.Core.Path.{sym, _∙_}
 use Prim.Native.Nat.{_-_}
-use native.Mathlib.Omega.{arith}
 use Rattle.lookup.proofs.MemberLaws as members
 use Rattle.lookup.proofs.member_at.Statement.{statement}
 use Rattle.lookup.proofs.member_at.Tie as tie
@@ -32,7 +31,7 @@ add-t8 : tie.Need-add-t8
 add-t8 c = search needs
 
 returns-4 : tie.Need-returns-4
-returns-4 c = let a = members.name-ends ((c .before .before .before .before .before .before .before) .args .s .now) _ _ (sym ((c .before .before .before .before) .string .ensures) ∙ (c .before .before) .e .given .1) in record { means = λ n v ms rest t g. members.member-there ((c .before .before .before .before .before .before .before) .args .s .now) ((c .before .before .before .before .before .before .before) .args .i) n v ms rest t g _ (sym ((c .before .before .before .before) .string .ensures) ∙ (c .before .before) .e .given .1); onward = (omega arith, omega (arith, a), omega (arith, c .if2 .left)) }
+returns-4 c = record { means = λ n v ms rest t g. members.member-there ((c .before .before .before .before .before .before .before) .args .s .now) ((c .before .before .before .before .before .before .before) .args .i) n v ms rest t g _ (sym ((c .before .before .before .before) .string .ensures) ∙ (c .before .before) .e .given .1); onward = members.name-after ((c .before .before .before .before .before .before .before) .args .s .now) ((c .before .before .before .before .before .before .before) .args .i) _ (sym ((c .before .before .before .before) .string .ensures) ∙ (c .before .before) .e .given .1) (c .if2 .left) }
 
 pub member-at-spec : {M : Type 1} → statement M
 member-at-spec =

@@ -18,7 +18,7 @@ returns-3 : tie.Need-returns-3
 returns-3 c = truths.truth-false ((c .before .before .before) .args .s .now) ((c .before .before .before) .args .at) ((c .before .before) .if1 .left) (c .match .keys2)
 
 returns-4 : tie.Need-returns-4
-returns-4 c = truths.truth-not ((c .before .before .before) .args .s .now) ((c .before .before .before) .args .at) ((c .before .before) .if1 .left) (c .match .rest .0) (c .match .rest .1)
+returns-4 c = truths.truth-not ((c .before .before .before) .args .s .now) ((c .before .before .before) .args .at) ((c .before .before) .if1 .left) (c .match .rest .0 .1) (c .match .rest .1)
 
 pub truth-at-spec : {M : Type 1} → statement M
 truth-at-spec = tie.close (tie.spec returns shared-slice-read-match returns-2 returns-3 returns-4)
