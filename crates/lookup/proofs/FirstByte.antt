@@ -27,21 +27,57 @@ all-digits minus (b ∷ ds) g = go (eqb b 48) refl minus ds g
 pub first-digit : (minus : Bool) (b : ℕ) (ds : Bytes) → validNum minus (b ∷ ds) ≡ true → isDigit b ≡ true
 first-digit minus b ds g = both (isDigit b) (allDigits ds) (all-digits minus (b ∷ ds) g) .0
 
--- a value's text is not empty, and does not begin as an array ends
-pub record Begins (t : Bytes) : Type 0 where
+-- whether the text of v begins with the byte c, which is no digit
+abbrev pub beginsWith : ℕ → Json → Bool
+beginsWith c jnull = eqb 110 c
+beginsWith c jtrue = eqb 116 c
+beginsWith c jfalse = eqb 102 c
+beginsWith c (num true ds) = eqb 45 c
+beginsWith c (num false ds) = false
+beginsWith c (str b) = eqb 34 c
+beginsWith c (arr xs) = eqb 91 c
+beginsWith c (obj ms) = eqb 123 c
+
+-- whether it begins with a digit
+abbrev pub isNatural : Json → Bool
+isNatural jnull = false
+isNatural jtrue = false
+isNatural jfalse = false
+isNatural (num true ds) = false
+isNatural (num false ds) = true
+isNatural (str b) = false
+isNatural (arr xs) = false
+isNatural (obj ms) = false
+
+-- the first byte of t tells what v is
+pub record Begins (v : Json) (t : Bytes) : Type 0 where
   pub first : ℕ
   pub others : Bytes
   pub is : t ≡ first ∷ others
-  pub goes-on : eqb first 93 ≡ false
+  pub with : (c : ℕ) → isDigit c ≡ false → eqb first c ≡ beginsWith c v
+  pub digit : isDigit first ≡ isNatural v
 
-pub begins : (v : Json) (d : ℕ) (r : Bytes) → Valid v d → Begins (put v r)
+pub begins : (v : Json) (d : ℕ) (r t : Bytes) → Valid v d → t ≡ put v r → Begins v t
 unfolding Valid
-begins jnull d r g = record { first = 110; others = _; is = put-null r; goes-on = refl }
-begins jtrue d r g = record { first = 116; others = _; is = put-true r; goes-on = refl }
-begins jfalse d r g = record { first = 102; others = _; is = put-false r; goes-on = refl }
-begins (num true ds) d r g = record { first = 45; others = _; is = put-num true ds r; goes-on = refl }
-begins (num false []) d r g = never (sym g)
-begins (num false (b ∷ ds)) d r g = record { first = b; others = _; is = put-num false (b ∷ ds) r; goes-on = digit-not b 93 (first-digit false b ds g) refl }
-begins (str b) d r g = record { first = 34; others = _; is = put-str b r; goes-on = refl }
-begins (arr xs) d r g = record { first = 91; others = _; is = put-arr xs r; goes-on = refl }
-begins (obj ms) d r g = record { first = 123; others = _; is = put-obj ms r; goes-on = refl }
+begins jnull d r t g e = record { first = 110; others = _; is = e ∙ put-null r; with = λ c n. refl; digit = refl }
+begins jtrue d r t g e = record { first = 116; others = _; is = e ∙ put-true r; with = λ c n. refl; digit = refl }
+begins jfalse d r t g e = record { first = 102; others = _; is = e ∙ put-false r; with = λ c n. refl; digit = refl }
+begins (num true ds) d r t g e = record { first = 45; others = _; is = e ∙ put-num true ds r; with = λ c n. refl; digit = refl }
+begins (num false []) d r t g e = never (sym g)
+begins (num false (b ∷ ds)) d r t g e =
+    let k = first-digit false b ds g in
+    record { first = b; others = _; is = e ∙ put-num false (b ∷ ds) r; with = λ c n. digit-not b c k n; digit = k }
+begins (str b) d r t g e = record { first = 34; others = _; is = e ∙ put-str b r; with = λ c n. refl; digit = refl }
+begins (arr xs) d r t g e = record { first = 91; others = _; is = e ∙ put-arr xs r; with = λ c n. refl; digit = refl }
+begins (obj ms) d r t g e = record { first = 123; others = _; is = e ∙ put-obj ms r; with = λ c n. refl; digit = refl }
+
+-- no value begins as an array ends
+pub not-closing : (v : Json) → beginsWith 93 v ≡ false
+not-closing jnull = refl
+not-closing jtrue = refl
+not-closing jfalse = refl
+not-closing (num true ds) = refl
+not-closing (num false ds) = refl
+not-closing (str b) = refl
+not-closing (arr xs) = refl
+not-closing (obj ms) = refl

@@ -2,17 +2,17 @@
 use mathlib.Core.Path.{_≡_, refl, sym, ap, _∙_}
 use mathlib.Core.List.{[], _∷_}
 use mathlib.Core.Bool.{true, false}
-use Prim.Native.Nat.{ℕ, _≤_, _<_, _+_, _-_}
+use Prim.Native.Nat.{ℕ, suc, _≤_, _<_, _+_, _-_}
+use native.Mathlib.Omega.{arith}
 use lib.Dec.{eqb}
 use lib.ListN.{length, drop, getD}
 use borrow.Author.Tests.{eq-eqb, ne-eqb}
 use Rattle.base.specs.Bytes.{Bytes, isDigit}
 use Rattle.base.proofs.PlaceLaws.{at-cons, at-end}
-use Rattle.base.proofs.TestLaws.{never}
 use Rattle.json.specs.Json.{Json, jnull, jtrue, jfalse, num, str, arr, obj, Items, inil, icons, Members, put, putItems, putMoreItems, Valid, ValidItems, maxDepth}
 use Rattle.json.specs.Read.{NoDigit}
 use Rattle.json.specs.Fields.{items}
-use Rattle.json.proofs.Puts.{put-null, put-true, put-false, put-num, put-str, put-arr, put-obj, items-nil, items-cons, more-items-nil, more-items-cons}
+use Rattle.json.proofs.Puts.{put-arr, items-nil, items-cons, more-items-nil, more-items-cons}
 use Rattle.lookup.specs.Place.{Stands, EndsAt}
 use Rattle.lookup.specs.Walk.{closes, opens, Opens, ItemsLeft, items-end, items-at, ItemsOf, ElementAfter, Follows}
 use Rattle.lookup.specs.declared.Found.{Found}
@@ -20,8 +20,8 @@ use Rattle.lookup.specs.declared.Found.the-variants as found
 use Rattle.lookup.specs.declared.Element.{Element}
 use Rattle.lookup.specs.declared.Element.the-variants.{NoArray, End, At}
 use Rattle.lookup.proofs.Deeper.{deeper}
-use Rattle.lookup.proofs.FirstByte.{digit-not, first-digit, begins}
-use Rattle.lookup.proofs.StandsLaws.{there, rest-at, end-is}
+use Rattle.lookup.proofs.FirstByte.{beginsWith, begins, not-closing}
+use Rattle.lookup.proofs.StandsLaws.{there, front, rest-at, end-is}
 
 -- ## Brackets
 
@@ -65,9 +65,11 @@ module _ (start close p : ℕ) where
     pub open-here : p < length s → getD s p 0 ≡ start → opens start close p (drop p s) ≡ closes close (p + 1) (drop (p + 1) s)
     open-here h e = rw (at-cons s p h, e) (opens-on (drop (p + 1) s))
 
--- a text that does not begin with the opening byte
-pub closed-text : (start close p : ℕ) (s : Bytes) (b : ℕ) (t : Bytes) → drop p s ≡ b ∷ t → eqb b start ≡ false → opens start close p (drop p s) ≡ NoArray
-closed-text start close p s b t e f = ap (λ (x : Bytes). opens start close p x) e ∙ opens-not start close p b t f
+-- a value that does not begin with the opening byte
+pub opens-no : (s : Bytes) (p : ℕ) (v : Json) → Stands s p v → (start close : ℕ) → isDigit start ≡ false → beginsWith start v ≡ false → opens start close p (drop p s) ≡ NoArray
+opens-no s p v h start close n e =
+    let b = front s p v h in
+    ap (λ (t : Bytes). opens start close p t) (b .is) ∙ opens-not start close p (b .first) (b .others) (b .with start n ∙ e)
 
 -- what follows a value, by where it ends
 pub follows-by : (s : Bytes) (p close : ℕ) {f : Found} → EndsAt s p f → (e : ℕ) → f ≡ found.At e → (r : Element) → r ≡ closes close (e + 1) (drop e s)
@@ -81,6 +83,20 @@ follows-by s p close w e q r k v h =
 -- an element that was found
 pub element-after : (s : Bytes) (p : ℕ) (r : Element) → ElementAfter s p r → (i : ℕ) → r ≡ At i → (p < i) × (i ≤ length s)
 element-after s p r a i q = rw q at a
+
+-- what is left of the text, for a loop's measure
+abbrev pub ahead : Bytes → Element → ℕ
+ahead s NoArray = 0
+ahead s End = 0
+ahead s (At i) = suc (length s - i)
+
+pub ahead-less : (s : Bytes) (e : Element) (i : ℕ) → e ≡ At i → (r : Element) → ElementAfter s i r → ahead s r < ahead s e
+ahead-less s e i q r a = rw q (go r a)
+  where
+    go : (r : Element) → ElementAfter s i r → ahead s r < suc (length s - i)
+    go NoArray a = omega arith
+    go End a = omega arith
+    go (At k) a = let x = a .0 in let y = a .1 in omega arith
 
 pub more-items-free : (vs : Items) (r : Bytes) → NoDigit (putMoreItems vs (93 ∷ r))
 more-items-free inil r = rw more-items-nil refl
@@ -97,24 +113,23 @@ item-stands {s} {i} {v} {vs} (items-at rest t g) = item-before s i v vs rest t g
 module _ (s : Bytes) (p : ℕ) where
   pub first-items : {r : Element} → Opens s p 91 93 r → (v : Json) → Stands s p v → ItemsOf s r (items v)
   unfolding items Valid
-  first-items o jnull h = o .is ∙ closed-text 91 93 p s _ _ (h .text ∙ put-null _) refl
-  first-items o jtrue h = o .is ∙ closed-text 91 93 p s _ _ (h .text ∙ put-true _) refl
-  first-items o jfalse h = o .is ∙ closed-text 91 93 p s _ _ (h .text ∙ put-false _) refl
-  first-items o (num true ds) h = o .is ∙ closed-text 91 93 p s _ _ (h .text ∙ put-num true ds _) refl
-  first-items o (num false []) h = never (sym (h .valid))
-  first-items o (num false (b ∷ ds)) h = o .is ∙ closed-text 91 93 p s _ _ (h .text ∙ put-num false (b ∷ ds) _) (digit-not b 91 (first-digit false b ds (h .valid)) refl)
-  first-items o (str b) h = o .is ∙ closed-text 91 93 p s _ _ (h .text ∙ put-str b _) refl
+  first-items o jnull h = o .is ∙ opens-no s p jnull h 91 93 refl refl
+  first-items o jtrue h = o .is ∙ opens-no s p jtrue h 91 93 refl refl
+  first-items o jfalse h = o .is ∙ opens-no s p jfalse h 91 93 refl refl
+  first-items o (num true ds) h = o .is ∙ opens-no s p (num true ds) h 91 93 refl refl
+  first-items o (num false ds) h = o .is ∙ opens-no s p (num false ds) h 91 93 refl refl
+  first-items o (str b) h = o .is ∙ opens-no s p (str b) h 91 93 refl refl
+  first-items o (obj ms) h = o .is ∙ opens-no s p (obj ms) h 91 93 refl refl
   first-items {r} o (arr inil) h =
       let k : r ≡ End = o .is ∙ ap (λ (x : Bytes). opens 91 93 p x) (h .text ∙ put-arr inil _) ∙ opens-on 91 93 p _ ∙ rw items-nil (closes-end 93 (p + 1) _) in
       rw k items-end
   first-items {r} o (arr (icons u us)) h =
       let g : ValidItems (icons u us) maxDepth = deeper (arr (icons u us)) maxDepth (h .valid) in
       let t = putMoreItems us (93 ∷ h .rest) in
-      let b = begins u maxDepth t (g .0) in
+      let b = begins u maxDepth t (put u t) (g .0) refl in
       let e : drop p s ≡ 91 ∷ put u t = h .text ∙ put-arr (icons u us) _ ∙ ap (λ (x : Bytes). 91 ∷ x) (items-cons u us _) in
-      let k : r ≡ At (p + 1) = o .is ∙ ap (λ (x : Bytes). opens 91 93 p x) e ∙ opens-on 91 93 p _ ∙ ap (λ (x : Bytes). closes 93 (p + 1) x) (b .is) ∙ closes-on 93 (p + 1) _ _ (b .goes-on) in
+      let k : r ≡ At (p + 1) = o .is ∙ ap (λ (x : Bytes). opens 91 93 p x) e ∙ opens-on 91 93 p _ ∙ ap (λ (x : Bytes). closes 93 (p + 1) x) (b .is) ∙ closes-on 93 (p + 1) _ _ (b .with 93 refl ∙ not-closing u) in
       rw k (items-at (h .rest) (there s p 91 _ e .2) g)
-  first-items o (obj ms) h = o .is ∙ closed-text 91 93 p s _ _ (h .text ∙ put-obj ms _) refl
 
   pub next-items : {r : Element} → Follows s p 93 r → (v : Json) (vs : Items) → ItemsLeft s (At p) (icons v vs) → ItemsLeft s r vs
   unfolding Valid item-before

@@ -2,15 +2,14 @@
 use mathlib.Core.Path.{_≡_, refl, sym, ap, _∙_}
 use mathlib.Core.Option.{Option, none, some, bind}
 use mathlib.Core.Bool.{Bool, true, false, cond}
-use Prim.Native.Nat.{ℕ, suc, _≤_, _<_, _-_}
-use native.Mathlib.Omega.{arith}
-use lib.ListN.{length, drop}
+use Prim.Native.Nat.{ℕ}
+use lib.ListN.{drop}
 use Rattle.base.specs.Bytes.{Bytes, same}
 use Rattle.json.specs.Json.{Json, Members, mnil, mcons}
 use Rattle.json.specs.Read.{raw}
 use Rattle.json.specs.Fields.{members, lookup, field}
 use Rattle.lookup.specs.Place.{Stands, PlaceOf}
-use Rattle.lookup.specs.Walk.{MembersLeft, members-end, members-at, MembersOf, MemberAfter, FirstMember, NextMember}
+use Rattle.lookup.specs.Walk.{MembersLeft, members-end, members-at, MembersOf, FirstMember, NextMember}
 use Rattle.lookup.specs.declared.Found.the-variants as found
 use Rattle.lookup.specs.declared.Member.{Member}
 use Rattle.lookup.specs.declared.Member.the-variants.{NoObject, End, At}
@@ -21,12 +20,6 @@ abbrev pub Sought : Bytes → Bytes → Member → Option Json → Type 0
 Sought s k NoObject o = o ≡ none
 Sought s k End o = o ≡ none
 Sought s k (At i j) o = (n : Bytes) × (v : Json) × (ms : Members) × MembersLeft s (At i j) (mcons n v ms) × (o ≡ lookup k (mcons n v ms))
-
--- what is left of the text, for the measure
-abbrev pub ahead : Bytes → Member → ℕ
-ahead s NoObject = 0
-ahead s End = 0
-ahead s (At i j) = suc (length s - j)
 
 module _ (s k : Bytes) where
   left-sought : {m : Member} {ms : Members} → MembersLeft s m ms → Sought s k m (lookup k ms)
@@ -64,11 +57,3 @@ module _ (s k : Bytes) where
       sought-next e {x} n =
           let r : o ≡ lookup k (here .2) = lookup-is ∙ rw (sym e) refl in
           rw r (left-sought (n .means i (here .0) (here .1) (here .2) (here .3)))
-
-pub ahead-less : (s : Bytes) (m : Member) (i j : ℕ) → m ≡ At i j → (x : Member) → MemberAfter s j x → ahead s x < ahead s m
-ahead-less s m i j q x a = rw q (go x a)
-  where
-    go : (x : Member) → MemberAfter s j x → ahead s x < suc (length s - j)
-    go NoObject a = omega arith
-    go End a = omega arith
-    go (At n v) a = let x = a .0 in let y = a .1 in let z = a .2 in omega arith

@@ -3,17 +3,16 @@ use mathlib.Core.Path.{_≡_, refl, sym, ap, _∙_}
 use mathlib.Core.List.{[], _∷_}
 use mathlib.Core.Option.{Option, none, some}
 use mathlib.Core.Bool.{true, false}
-use Prim.Native.Nat.{ℕ, _≤_, _<_, _+_, _-_}
+use Prim.Native.Nat.{ℕ, suc, _≤_, _<_, _+_, _-_}
 use native.Mathlib.Omega.{arith}
 use lib.Dec.{eqb}
 use lib.ListN.{length, drop, getD}
 use Rattle.base.specs.Bytes.{Bytes}
-use Rattle.base.proofs.TestLaws.{never}
 use Rattle.json.specs.Json.{Json, jnull, jtrue, jfalse, num, str, arr, obj, Members, mnil, mcons, put, putStr, putBytes, putMoreMembers, Valid, ValidStr, ValidMembers, maxDepth}
 use Rattle.json.specs.Read.{Got, bad, got, endOf, also, read, readStr, kindOf, raw, NoDigit}
 use Rattle.json.specs.Fields.{members}
 use Rattle.json.specs.declared.Skip.the-variants as skip
-use Rattle.json.proofs.Puts.{put-null, put-true, put-false, put-num, put-str, put-arr, put-obj, members-nil, members-cons, more-members-nil, more-members-cons}
+use Rattle.json.proofs.Puts.{put-str, put-obj, members-nil, members-cons, more-members-nil, more-members-cons}
 use Rattle.json.proofs.Complete.{complete}
 use Rattle.json.proofs.Rest.{Located, located, chars-fits, refused}
 use Rattle.lookup.specs.Place.{Stands}
@@ -23,9 +22,8 @@ use Rattle.lookup.specs.declared.Element.the-variants as element
 use Rattle.lookup.specs.declared.Member.{Member}
 use Rattle.lookup.specs.declared.Member.the-variants as member
 use Rattle.lookup.proofs.Deeper.{deeper}
-use Rattle.lookup.proofs.FirstByte.{digit-not, first-digit}
 use Rattle.lookup.proofs.StandsLaws.{there, rest-at}
-use Rattle.lookup.proofs.ItemLaws.{closes-end, closes-on, opens-on, closed-text}
+use Rattle.lookup.proofs.ItemLaws.{closes-end, closes-on, opens-on, opens-no}
 use Rattle.lookup.proofs.StringLaws.{raw-bytes}
 
 -- ## One member
@@ -78,6 +76,21 @@ name-after s i e q h = let k = located s (i + 1) e (chars-fits (drop (i + 1) s) 
 pub member-after : (s : Bytes) (p : ℕ) (r : Member) → MemberAfter s p r → (i j : ℕ) → r ≡ member.At i j → (p < i) × (i < j) × (j ≤ length s)
 member-after s p r a i j q = rw q at a
 
+-- what is left of the text, for a loop's measure
+abbrev pub ahead : Bytes → Member → ℕ
+ahead s member.NoObject = 0
+ahead s member.End = 0
+ahead s (member.At i j) = suc (length s - j)
+
+pub ahead-less : (s : Bytes) (m : Member) (i j : ℕ) → m ≡ member.At i j → (r : Member) → MemberAfter s j r → ahead s r < ahead s m
+ahead-less s m i j q r a = rw q (go r a)
+  where
+    go : (r : Member) → MemberAfter s j r → ahead s r < suc (length s - j)
+    go member.NoObject a = omega arith
+    go member.End a = omega arith
+    go (member.At n v) a = let x = a .0 in let y = a .1 in let z = a .2 in omega arith
+
+-- what lies after i lies after a place before i
 pub after-later : (s : Bytes) (p i : ℕ) → p < i → (r : Member) → MemberAfter s i r → MemberAfter s p r
 after-later s p i h member.NoObject a = tt
 after-later s p i h member.End a = tt
@@ -122,14 +135,13 @@ members-by (open-at {n = n} {v = v} {ms = ms} rest t g) (by-at m) = m .means n v
 module _ (s : Bytes) (p : ℕ) where
   first-members : {e : Element} → Opens s p 123 125 e → (v : Json) → Stands s p v → MembersOpen s e (members v)
   unfolding members Valid
-  first-members o jnull h = rw (o .is ∙ closed-text 123 125 p s _ _ (h .text ∙ put-null _) refl) open-none
-  first-members o jtrue h = rw (o .is ∙ closed-text 123 125 p s _ _ (h .text ∙ put-true _) refl) open-none
-  first-members o jfalse h = rw (o .is ∙ closed-text 123 125 p s _ _ (h .text ∙ put-false _) refl) open-none
-  first-members o (num true ds) h = rw (o .is ∙ closed-text 123 125 p s _ _ (h .text ∙ put-num true ds _) refl) open-none
-  first-members o (num false []) h = never (sym (h .valid))
-  first-members o (num false (b ∷ ds)) h = rw (o .is ∙ closed-text 123 125 p s _ _ (h .text ∙ put-num false (b ∷ ds) _) (digit-not b 123 (first-digit false b ds (h .valid)) refl)) open-none
-  first-members o (str b) h = rw (o .is ∙ closed-text 123 125 p s _ _ (h .text ∙ put-str b _) refl) open-none
-  first-members o (arr xs) h = rw (o .is ∙ closed-text 123 125 p s _ _ (h .text ∙ put-arr xs _) refl) open-none
+  first-members o jnull h = rw (o .is ∙ opens-no s p jnull h 123 125 refl refl) open-none
+  first-members o jtrue h = rw (o .is ∙ opens-no s p jtrue h 123 125 refl refl) open-none
+  first-members o jfalse h = rw (o .is ∙ opens-no s p jfalse h 123 125 refl refl) open-none
+  first-members o (num true ds) h = rw (o .is ∙ opens-no s p (num true ds) h 123 125 refl refl) open-none
+  first-members o (num false ds) h = rw (o .is ∙ opens-no s p (num false ds) h 123 125 refl refl) open-none
+  first-members o (str b) h = rw (o .is ∙ opens-no s p (str b) h 123 125 refl refl) open-none
+  first-members o (arr xs) h = rw (o .is ∙ opens-no s p (arr xs) h 123 125 refl refl) open-none
   first-members {e} o (obj mnil) h =
       let k : e ≡ element.End = o .is ∙ ap (λ (x : Bytes). opens 123 125 p x) (h .text ∙ put-obj mnil _) ∙ opens-on 123 125 p _ ∙ rw members-nil (closes-end 125 (p + 1) _) in
       rw k open-end

@@ -10,14 +10,15 @@ use lib.ListN.{length, drop, getD}
 use borrow.Author.Tests.{le-leb, lt-leb, leb-true}
 use Rattle.base.specs.Bytes.{Bytes, isDigit}
 use Rattle.base.proofs.PlaceLaws.{at-cons, at-end}
-use Rattle.base.proofs.TestLaws.{never, both}
-use Rattle.json.specs.Json.{Json, jnull, jtrue, jfalse, num, str, arr, obj, put, Valid, allDigits}
+use Rattle.base.proofs.TestLaws.{both}
+use Rattle.json.specs.Json.{Json, jnull, jtrue, jfalse, num, str, arr, obj, Valid, allDigits}
 use Rattle.json.specs.Read.{NoDigit}
 use Rattle.json.specs.Fields.{keep, between, decimal, natural, number}
-use Rattle.json.proofs.Puts.{put-null, put-true, put-false, put-num, put-str, put-arr, put-obj}
-use Rattle.lookup.specs.Place.{Stands}
+use Rattle.json.proofs.Puts.{put-num}
+use Rattle.lookup.specs.Place.{Stands, Takes}
 use Rattle.lookup.specs.Leaves.{leading, leadingTo, numberIn}
-use Rattle.lookup.proofs.FirstByte.{all-digits, first-digit}
+use Rattle.lookup.proofs.FirstByte.{isNatural, all-digits}
+use Rattle.lookup.proofs.StandsLaws.{front}
 
 -- ## Digits, one after the other: n before those at i
 
@@ -126,16 +127,23 @@ leading-digits (b ∷ ds) r n g f =
     let e = both (isDigit b) (allDigits ds) g in
     simp (e .0) (leading-digits ds r (n * 10 + (b - 48)) (e .1) f)
 
+number-first : (lo hi : ℕ) (s : Bytes) (p : ℕ) (v : Json) → Stands s p v → numberIn lo hi (drop p s) ≡ cond (isNatural v) (between lo hi (leading 0 (drop p s))) none
+unfolding numberIn
+number-first lo hi s p v h = let b = front s p v h in rw (b .is) (simp (b .digit))
+
 pub number-of : (lo hi : ℕ) (s : Bytes) (p : ℕ) (v : Json) → Stands s p v → numberIn lo hi (drop p s) ≡ number lo hi v
-unfolding numberIn number natural Valid bind
-number-of lo hi s p jnull h = rw (h .text, put-null) refl
-number-of lo hi s p jtrue h = rw (h .text, put-true) refl
-number-of lo hi s p jfalse h = rw (h .text, put-false) refl
-number-of lo hi s p (num true ds) h = rw (h .text, put-num) refl
-number-of lo hi s p (num false []) h = never (sym (h .valid))
-number-of lo hi s p (num false (b ∷ ds)) h =
-    let k : leading 0 (b ∷ ds ++ h .rest) ≡ decimal 0 (b ∷ ds) = leading-digits (b ∷ ds) (h .rest) 0 (all-digits false (b ∷ ds) (h .valid)) (h .free) in
-    rw (h .text, put-num, first-digit false b ds (h .valid)) (ap (λ (n : ℕ). between lo hi n) k)
-number-of lo hi s p (str b) h = rw (h .text, put-str) refl
-number-of lo hi s p (arr xs) h = rw (h .text, put-arr) refl
-number-of lo hi s p (obj ms) h = rw (h .text, put-obj) refl
+unfolding number natural bind Valid
+number-of lo hi s p v h = number-first lo hi s p v h ∙ go v h
+  where
+    go : (v : Json) → Stands s p v → cond (isNatural v) (between lo hi (leading 0 (drop p s))) none ≡ number lo hi v
+    go jnull h = refl
+    go jtrue h = refl
+    go jfalse h = refl
+    go (num true ds) h = refl
+    go (num false ds) h = ap (λ (n : ℕ). between lo hi n) (ap (λ (t : Bytes). leading 0 t) (h .text ∙ put-num false ds _) ∙ leading-digits ds (h .rest) 0 (all-digits false ds (h .valid)) (h .free))
+    go (str b) h = refl
+    go (arr xs) h = refl
+    go (obj ms) h = refl
+
+pub number-takes : (lo hi : ℕ) (s : Bytes) (p : ℕ) (o : Option ℕ) → o ≡ numberIn lo hi (drop p s) → Takes s p (number lo hi) o
+number-takes lo hi s p o e v h = e ∙ number-of lo hi s p v h

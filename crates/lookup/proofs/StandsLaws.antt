@@ -20,7 +20,7 @@ use Rattle.json.proofs.Slices.{put-split}
 use Rattle.lookup.specs.Place.{Stands, PlaceAfter, EndsAt}
 use Rattle.lookup.specs.declared.Found.{Found}
 use Rattle.lookup.specs.declared.Found.the-variants.{Nothing, At}
-use Rattle.lookup.proofs.FirstByte.{begins}
+use Rattle.lookup.proofs.FirstByte.{Begins, begins}
 
 -- where a text goes on with a byte, it does
 pub there : (s : Bytes) (i x : ℕ) (t : Bytes) → drop i s ≡ x ∷ t → (i < length s) × (getD s i 0 ≡ x) × (drop (i + 1) s ≡ t)
@@ -47,10 +47,11 @@ pub whole : (s : Bytes) → Canonical maxDepth s → (v : Json) × (here : Stand
 whole s c = (c .0, record { rest = []; text = c .2; free = tt; valid = c .1 }, refl)
 
 module _ (s : Bytes) (p : ℕ) (v : Json) (h : Stands s p v) where
+  pub front : Begins v (drop p s)
+  front = begins v maxDepth (h .rest) (drop p s) (h .valid) (h .text)
+
   pub inside : p < length s
-  inside =
-      let b = begins v maxDepth (h .rest) (h .valid) in
-      there s p (b .first) (b .others) (h .text ∙ b .is) .0
+  inside = there s p (front .first) (front .others) (front .is) .0
 
   -- the rest begins where the value ends
   pub rest-at : drop (length s - length (h .rest)) s ≡ h .rest

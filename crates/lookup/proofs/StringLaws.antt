@@ -13,18 +13,20 @@ use borrow.Author.Tests.{eq-eqb, ne-eqb, eqb-true, eqb-false, le-leb, lt-leb, le
 use Rattle.base.specs.Bytes.{Bytes, same}
 use Rattle.base.proofs.PlaceLaws.{at-cons, at-end}
 use Rattle.base.proofs.ByteLaws.{same-none, same-cons, same-differ, same-lengths}
-use Rattle.base.proofs.TestLaws.{never}
 use Rattle.json.specs.Json.{Json, jnull, jtrue, jfalse, num, str, arr, obj, put, putBytes, Valid, isEscaped}
 use Rattle.json.specs.Read.{raw}
+use Rattle.json.specs.Names.{CharAt}
+use Rattle.json.specs.declared.Char.{Char}
+use Rattle.json.specs.declared.Char.the-variants.{Close, Byte}
 use Rattle.json.specs.Fields.{text}
-use Rattle.json.proofs.Puts.{put-null, put-true, put-false, put-num, put-str, put-arr, put-obj}
+use Rattle.json.proofs.Puts.{put-str}
 use Rattle.json.proofs.CharsLaws.{neither}
 use Rattle.lookup.specs.Place.{Stands}
 use Rattle.lookup.specs.Leaves.{stringIn, copied, Copies}
 use Rattle.lookup.specs.declared.Found.{Found}
 use Rattle.lookup.specs.declared.Found.the-variants.{Nothing, At}
-use Rattle.lookup.proofs.FirstByte.{digit-not, first-digit}
-use Rattle.lookup.proofs.StandsLaws.{there}
+use Rattle.lookup.proofs.FirstByte.{beginsWith}
+use Rattle.lookup.proofs.StandsLaws.{there, front}
 
 -- ## Where a string begins
 
@@ -64,24 +66,33 @@ raw-bytes (b ∷ bs) r = go (isEscaped b) refl (raw-bytes bs r)
     go true e h = raw-escaped b _ ∙ ap (λ (x : Bytes). b ∷ x) h
     go false e h = let n = neither b e in raw-plain b _ (n .0) (n .1) ∙ ap (λ (x : Bytes). b ∷ x) h
 
+-- one byte of it, as the code reads it
+module _ (s : Bytes) (i : ℕ) (r : Char) (w : CharAt s i r) where
+  pub char-close : r ≡ Close → raw (drop i s) ≡ []
+  char-close q = rw q at w
+
+  pub char-byte : (b j : ℕ) → r ≡ Byte b j → (raw (drop i s) ≡ b ∷ raw (drop j s)) × (i < j) × (j ≤ length s)
+  char-byte b j q = rw q at w
+
 -- the string that is found is the value's text, and where the value is none nothing is found
 abbrev pub TextOf : Bytes → Found → Option Bytes → Type 0
 TextOf s Nothing o = o ≡ none
 TextOf s (At i) o = o ≡ some (raw (drop i s))
 
+string-first : (s : Bytes) (p : ℕ) (v : Json) → Stands s p v → stringIn p (drop p s) ≡ cond (beginsWith 34 v) (At (p + 1)) Nothing
+unfolding stringIn
+string-first s p v h = let b = front s p v h in rw (b .is, b .with 34 refl)
+
 pub text-of : (s : Bytes) (p : ℕ) (v : Json) → Stands s p v → TextOf s (stringIn p (drop p s)) (text v)
-unfolding text stringIn Valid
-text-of s p jnull h = rw (h .text, put-null) refl
-text-of s p jtrue h = rw (h .text, put-true) refl
-text-of s p jfalse h = rw (h .text, put-false) refl
-text-of s p (num true ds) h = rw (h .text, put-num) refl
-text-of s p (num false []) h = never (sym (h .valid))
-text-of s p (num false (b ∷ ds)) h = rw (h .text, put-num, digit-not b 34 (first-digit false b ds (h .valid)) refl) refl
-text-of s p (str b) h =
-    let e = h .text ∙ put-str b (h .rest) in
-    rw e (ap some (sym (ap raw (there s p 34 _ e .2) ∙ raw-bytes b (h .rest))))
-text-of s p (arr xs) h = rw (h .text, put-arr) refl
-text-of s p (obj ms) h = rw (h .text, put-obj) refl
+unfolding text
+text-of s p jnull h = rw (string-first s p jnull h) refl
+text-of s p jtrue h = rw (string-first s p jtrue h) refl
+text-of s p jfalse h = rw (string-first s p jfalse h) refl
+text-of s p (num true ds) h = rw (string-first s p (num true ds) h) refl
+text-of s p (num false ds) h = rw (string-first s p (num false ds) h) refl
+text-of s p (str b) h = rw (string-first s p (str b) h) (ap some (sym (ap raw (there s p 34 _ (h .text ∙ put-str b (h .rest)) .2) ∙ raw-bytes b (h .rest))))
+text-of s p (arr xs) h = rw (string-first s p (arr xs) h) refl
+text-of s p (obj ms) h = rw (string-first s p (obj ms) h) refl
 
 module _ (s : Bytes) (p : ℕ) (v : Json) (h : Stands s p v) (r : Found) (q : r ≡ stringIn p (drop p s)) where
   pub no-text : r ≡ Nothing → text v ≡ none

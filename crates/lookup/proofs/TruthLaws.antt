@@ -1,20 +1,19 @@
 -- true and false at a place of the text.
-use mathlib.Core.Path.{_≡_, refl, sym}
+use mathlib.Core.Path.{_≡_, refl, _∙_}
 use mathlib.Core.List.{[], _∷_}
-use mathlib.Core.Option.{none, some}
-use mathlib.Core.Bool.{true, false}
+use mathlib.Core.Option.{Option, none, some}
+use mathlib.Core.Bool.{Bool, true, false, cond}
 use Prim.Native.Nat.{ℕ, _≤_, _<_}
 use lib.ListN.{length, drop, getD}
 use borrow.Author.Tests.{ne-eqb}
 use Rattle.base.specs.Bytes.{Bytes}
 use Rattle.base.proofs.PlaceLaws.{at-cons, at-end}
-use Rattle.base.proofs.TestLaws.{never}
-use Rattle.json.specs.Json.{Json, jnull, jtrue, jfalse, num, str, arr, obj, Valid}
+use Rattle.json.specs.Json.{Json, jnull, jtrue, jfalse, num, str, arr, obj}
 use Rattle.json.specs.Fields.{truth}
-use Rattle.json.proofs.Puts.{put-null, put-true, put-false, put-num, put-str, put-arr, put-obj}
-use Rattle.lookup.specs.Place.{Stands}
+use Rattle.lookup.specs.Place.{Stands, Takes}
 use Rattle.lookup.specs.Leaves.{truthIn}
-use Rattle.lookup.proofs.FirstByte.{digit-not, first-digit}
+use Rattle.lookup.proofs.FirstByte.{beginsWith}
+use Rattle.lookup.proofs.StandsLaws.{front}
 
 module _ (s : Bytes) (p : ℕ) where
   pub truth-cut : length s ≤ p → none ≡ truthIn (drop p s)
@@ -34,15 +33,18 @@ module _ (s : Bytes) (p : ℕ) where
   truth-not h e f = rw (at-cons s p h, ne-eqb _ _ e, ne-eqb _ _ f)
 
 pub truth-of : (s : Bytes) (p : ℕ) (v : Json) → Stands s p v → truthIn (drop p s) ≡ truth v
-unfolding truthIn truth Valid
-truth-of s p jnull h = rw (h .text, put-null) refl
-truth-of s p jtrue h = rw (h .text, put-true) refl
-truth-of s p jfalse h = rw (h .text, put-false) refl
-truth-of s p (num true ds) h = rw (h .text, put-num) refl
-truth-of s p (num false []) h = never (sym (h .valid))
-truth-of s p (num false (b ∷ ds)) h =
-    let d = first-digit false b ds (h .valid) in
-    rw (h .text, put-num, digit-not b 116 d refl, digit-not b 102 d refl) refl
-truth-of s p (str b) h = rw (h .text, put-str) refl
-truth-of s p (arr xs) h = rw (h .text, put-arr) refl
-truth-of s p (obj ms) h = rw (h .text, put-obj) refl
+unfolding truthIn truth
+truth-of s p v h = let b = front s p v h in rw (b .is, b .with 116 refl, b .with 102 refl) (go v)
+  where
+    go : (v : Json) → cond (beginsWith 116 v) (some true) (cond (beginsWith 102 v) (some false) none) ≡ truth v
+    go jnull = refl
+    go jtrue = refl
+    go jfalse = refl
+    go (num true ds) = refl
+    go (num false ds) = refl
+    go (str b) = refl
+    go (arr xs) = refl
+    go (obj ms) = refl
+
+pub truth-takes : (s : Bytes) (p : ℕ) (o : Option Bool) → o ≡ truthIn (drop p s) → Takes s p truth o
+truth-takes s p o e v h = e ∙ truth-of s p v h

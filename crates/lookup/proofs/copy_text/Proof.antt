@@ -4,8 +4,6 @@ use Prim.Native.Nat.{_≤_, _+_, _-_}
 use native.Mathlib.Omega.{arith}
 use borrow.Author.Needs.{needs}
 use lib.ListN.{length, drop}
-use Rattle.json.specs.Names.{CharAt}
-use Rattle.json.specs.declared.Char.the-variants.{Close, Byte}
 use Rattle.json.specs.Read.{raw}
 use lib.ListN.{length-set}
 use lib.Seq.{sets}
@@ -24,10 +22,14 @@ text-len-requires : tie.Need-text-len-requires Inv-loop μ-loop
 text-len-requires c κs = search needs
 
 returns : tie.Need-returns Inv-loop μ-loop
-returns c = let len = (c .before) .text-len .ensures in strings.copy-refused (raw (drop ((c .before .before .before .before) .args .i) ((c .before .before .before .before) .args .s .now))) ((c .before .before .before .before) .args .out .now) (omega arith)
+returns c =
+    let len = c .before .text-len .ensures in
+    strings.copy-refused (raw (drop (c .before .before .before .before .args .i) (c .before .before .before .before .args .s .now))) (c .before .before .before .before .args .out .now) (omega arith)
 
 loop-holds : tie.Need-loop-holds Inv-loop μ-loop
-loop-holds c = let len = (c .before) .text-len .ensures in (omega arith, refl, strings.copied-sets (raw (drop ((c .before .before .before .before) .args .i) ((c .before .before .before .before) .args .s .now))) ((c .before .before .before .before) .args .out .now) (omega arith))
+loop-holds c =
+    let len = c .before .text-len .ensures in
+    (omega arith, refl, strings.copied-sets (raw (drop (c .before .before .before .before .args .i) (c .before .before .before .before .args .s .now))) (c .before .before .before .before .args .out .now) (omega arith))
 
 char-at-requires : tie.Need-char-at-requires Inv-loop μ-loop
 char-at-requires c κs = search needs
@@ -36,25 +38,56 @@ enum-told : tie.Need-enum-told Inv-loop μ-loop
 enum-told c = search needs
 
 same-length : tie.Need-same-length Inv-loop μ-loop
-same-length c = (c .before .before .before) .loop .inv .1
+same-length c = c .before .before .before .loop .inv .1
 
 returns-2 : tie.Need-returns-2 Inv-loop μ-loop
-returns-2 c = let a = (c .before .before .before .before .before .before .before .before) .args in let s = a .s .now in let l = (c .before .before .before) .loop in let e : CharAt s (l .p) Close = rw (c .enum-told .given .1) at ((c .before .before) .char-at .ensures) in let len = (c .before .before .before .before .before) .text-len .ensures in strings.copy-done (raw (drop ((c .before .before .before .before .before .before .before .before) .args .i) ((c .before .before .before .before .before .before .before .before) .args .s .now))) ((c .before .before .before .before .before .before .before .before) .args .out .now) (omega (arith, (c .before .before .before .before) .if1 .left)) _ _ _ (l .inv .2) e
+returns-2 c =
+    let a = c .before .before .before .before .before .before .before .before .args in
+    let s = a .s .now in
+    let l = c .before .before .before .loop in
+    let e = strings.char-close s (l .p) _ (c .before .before .char-at .ensures) (c .enum-told .given .1) in
+    let len = c .before .before .before .before .before .text-len .ensures in
+    strings.copy-done (raw (drop (c .before .before .before .before .before .before .before .before .args .i) (c .before .before .before .before .before .before .before .before .args .s .now))) (c .before .before .before .before .before .before .before .before .args .out .now) (omega (arith, c .before .before .before .before .if1 .left)) _ _ _ (l .inv .2) e
 
 enum-known-b : tie.Need-enum-known-b Inv-loop μ-loop
 enum-known-b c = search needs
 
 slice-write-out : tie.Need-slice-write-out Inv-loop μ-loop
-slice-write-out c = let a = (c .before .before .before .before .before .before .before .before .before) .args in let s = a .s .now in let l = (c .before .before .before .before) .loop in let x : CharAt s (l .p) (Byte _ _) = rw ((c .before) .b .given .1) at ((c .before .before .before) .char-at .ensures) in let z = ap length (x .0) in omega (arith, l .inv .0)
+slice-write-out c =
+    let a = c .before .before .before .before .before .before .before .before .before .args in
+    let s = a .s .now in
+    let l = c .before .before .before .before .loop in
+    let x = strings.char-byte s (l .p) _ (c .before .before .before .char-at .ensures) _ _ (c .before .b .given .1) in
+    let z = ap length (x .0) in
+    omega (arith, l .inv .0)
 
 add-n : tie.Need-add-n Inv-loop μ-loop
-add-n c = let a = (c .before .before .before .before .before .before .before .before .before) .args in let s = a .s .now in let l = (c .before .before .before .before) .loop in let x : CharAt s (l .p) (Byte _ _) = rw ((c .before) .b .given .1) at ((c .before .before .before) .char-at .ensures) in let z = ap length (x .0) in omega (arith, l .inv .0)
+add-n c =
+    let a = c .before .before .before .before .before .before .before .before .before .args in
+    let s = a .s .now in
+    let l = c .before .before .before .before .loop in
+    let x = strings.char-byte s (l .p) _ (c .before .before .before .char-at .ensures) _ _ (c .before .b .given .1) in
+    let z = ap length (x .0) in
+    omega (arith, l .inv .0)
 
 loop-less : tie.Need-loop-less Inv-loop μ-loop
-loop-less c = let a = (c .before .before .before .before .before .before .before .before .before) .args in let s = a .s .now in let l = (c .before .before .before .before) .loop in let x : CharAt s (l .p) (Byte _ _) = rw ((c .before) .b .given .1) at ((c .before .before .before) .char-at .ensures) in let m = x .1 in let n = x .2 in omega arith
+loop-less c =
+    let a = c .before .before .before .before .before .before .before .before .before .args in
+    let s = a .s .now in
+    let l = c .before .before .before .before .loop in
+    let x = strings.char-byte s (l .p) _ (c .before .before .before .char-at .ensures) _ _ (c .before .b .given .1) in
+    let m = x .1 in
+    let n = x .2 in
+    omega arith
 
 loop-again : tie.Need-loop-again Inv-loop μ-loop
-loop-again c = let a = (c .before .before .before .before .before .before .before .before .before) .args in let s = a .s .now in let l = (c .before .before .before .before) .loop in let x : CharAt s (l .p) (Byte _ _) = rw ((c .before) .b .given .1) at ((c .before .before .before) .char-at .ensures) in let z = ap length (x .0) in (simp length-set (omega (arith, l .inv .0)), simp length-set (l .inv .1), l .inv .2 ∙ strings.set-next (l .out) (l .n) _ _ _ (x .0))
+loop-again c =
+    let a = c .before .before .before .before .before .before .before .before .before .args in
+    let s = a .s .now in
+    let l = c .before .before .before .before .loop in
+    let x = strings.char-byte s (l .p) _ (c .before .before .before .char-at .ensures) _ _ (c .before .b .given .1) in
+    let z = ap length (x .0) in
+    (simp length-set (omega (arith, l .inv .0)), simp length-set (l .inv .1), l .inv .2 ∙ strings.set-next (l .out) (l .n) _ _ _ (x .0))
 
 pub copy-text-spec : {M : Type 1} → statement M
 copy-text-spec =

@@ -23,16 +23,30 @@ shared-slice-read-b : tie.Need-shared-slice-read-b Inv-loop μ-loop
 shared-slice-read-b c = search needs
 
 returns : tie.Need-returns Inv-loop μ-loop
-returns c = let a = (c .before .before .before .before .before) .args in let s = a .s .now in let l = (c .before .before .before) .loop in numbers.leading-is (a .hi) _ (l .n) (l .inv .1 ∙ numbers.digits-end s (l .i) (l .n) ((c .before .before) .loop-test .taken) (digit-low _ (c .if1 .taken))) (l .inv .0)
+returns c =
+    let a = c .before .before .before .before .before .args in
+    let s = a .s .now in
+    let l = c .before .before .before .loop in
+    numbers.leading-is (a .hi) _ (l .n) (l .inv .1 ∙ numbers.digits-end s (l .i) (l .n) (c .before .before .loop-test .taken) (digit-low _ (c .if1 .taken))) (l .inv .0)
 
 returns-2 : tie.Need-returns-2 Inv-loop μ-loop
-returns-2 c = let a = (c .before .before .before .before .before .before) .args in let s = a .s .now in let l = (c .before .before .before .before) .loop in numbers.leading-is (a .hi) _ (l .n) (l .inv .1 ∙ numbers.digits-end s (l .i) (l .n) ((c .before .before .before) .loop-test .taken) (digit-high _ (c .if2 .taken))) (l .inv .0)
+returns-2 c =
+    let a = c .before .before .before .before .before .before .args in
+    let s = a .s .now in
+    let l = c .before .before .before .before .loop in
+    numbers.leading-is (a .hi) _ (l .n) (l .inv .1 ∙ numbers.digits-end s (l .i) (l .n) (c .before .before .before .loop-test .taken) (digit-high _ (c .if2 .taken))) (l .inv .0)
 
 wide-requires : tie.Need-wide-requires Inv-loop μ-loop
 wide-requires c κs = search needs
 
 returns-3 : tie.Need-returns-3 Inv-loop μ-loop
-returns-3 c = let a = (c .before .before .before .before .before .before .before .before) .args in let s = a .s .now in let l = (c .before .before .before .before .before .before) .loop in let on = l .inv .1 ∙ numbers.digits-next s (l .i) (l .n) ((c .before .before .before .before .before) .loop-test .taken) (digit (getD s (l .i) 0) ((c .before .before .before) .if1 .left) ((c .before .before) .if2 .left)) in let more = numbers.leading-grows (drop (l .i + 1) s) (l .n * 10 + (getD s (l .i) 0 - 48)) in numbers.leading-over (a .hi) _ (omega arith)
+returns-3 c =
+    let a = c .before .before .before .before .before .before .before .before .args in
+    let s = a .s .now in
+    let l = c .before .before .before .before .before .before .loop in
+    let on = l .inv .1 ∙ numbers.digits-next s (l .i) (l .n) (c .before .before .before .before .before .loop-test .taken) (digit (getD s (l .i) 0) (c .before .before .before .if1 .left) (c .before .before .if2 .left)) in
+    let more = numbers.leading-grows (drop (l .i + 1) s) (l .n * 10 + (getD s (l .i) 0 - 48)) in
+    numbers.leading-over (a .hi) _ (omega arith)
 
 mul-m : tie.Need-mul-m Inv-loop μ-loop
 mul-m c = omega arith
@@ -41,7 +55,14 @@ sub-if4 : tie.Need-sub-if4 Inv-loop μ-loop
 sub-if4 c = omega arith
 
 returns-4 : tie.Need-returns-4 Inv-loop μ-loop
-returns-4 c = let a = (c .before .before .before .before .before .before .before .before .before) .args in let s = a .s .now in let l = (c .before .before .before .before .before .before .before) .loop in let on = l .inv .1 ∙ numbers.digits-next s (l .i) (l .n) ((c .before .before .before .before .before .before) .loop-test .taken) (digit (getD s (l .i) 0) ((c .before .before .before .before) .if1 .left) ((c .before .before .before) .if2 .left)) in let more = numbers.leading-grows (drop (l .i + 1) s) (l .n * 10 + (getD s (l .i) 0 - 48)) in let d = (c .before .before) .wide .ensures in numbers.leading-over (a .hi) _ (omega arith)
+returns-4 c =
+    let a = c .before .before .before .before .before .before .before .before .before .args in
+    let s = a .s .now in
+    let l = c .before .before .before .before .before .before .before .loop in
+    let on = l .inv .1 ∙ numbers.digits-next s (l .i) (l .n) (c .before .before .before .before .before .before .loop-test .taken) (digit (getD s (l .i) 0) (c .before .before .before .before .if1 .left) (c .before .before .before .if2 .left)) in
+    let more = numbers.leading-grows (drop (l .i + 1) s) (l .n * 10 + (getD s (l .i) 0 - 48)) in
+    let d = c .before .before .wide .ensures in
+    numbers.leading-over (a .hi) _ (omega arith)
 
 add-n : tie.Need-add-n Inv-loop μ-loop
 add-n c = omega arith
@@ -53,10 +74,20 @@ loop-less : tie.Need-loop-less Inv-loop μ-loop
 loop-less c = omega arith
 
 loop-again : tie.Need-loop-again Inv-loop μ-loop
-loop-again c = let a = (c .before .before .before .before .before .before .before .before .before) .args in let s = a .s .now in let l = (c .before .before .before .before .before .before .before) .loop in let on = l .inv .1 ∙ numbers.digits-next s (l .i) (l .n) ((c .before .before .before .before .before .before) .loop-test .taken) (digit (getD s (l .i) 0) ((c .before .before .before .before) .if1 .left) ((c .before .before .before) .if2 .left)) in let d = (c .before .before) .wide .ensures in (omega arith, on ∙ ap (λ (x : ℕ). leading (l .n * 10 + x) (drop (l .i + 1) s)) (sym d))
+loop-again c =
+    let a = c .before .before .before .before .before .before .before .before .before .args in
+    let s = a .s .now in
+    let l = c .before .before .before .before .before .before .before .loop in
+    let on = l .inv .1 ∙ numbers.digits-next s (l .i) (l .n) (c .before .before .before .before .before .before .loop-test .taken) (digit (getD s (l .i) 0) (c .before .before .before .before .if1 .left) (c .before .before .before .if2 .left)) in
+    let d = c .before .before .wide .ensures in
+    (omega arith, on ∙ ap (λ (x : ℕ). leading (l .n * 10 + x) (drop (l .i + 1) s)) (sym d))
 
 returns-5 : tie.Need-returns-5 Inv-loop μ-loop
-returns-5 c = let a = (c .before .before .before) .args in let s = a .s .now in let l = (c .before) .loop in numbers.leading-is (a .hi) _ (l .n) (l .inv .1 ∙ numbers.digits-spent s (l .i) (l .n) (c .loop-test .left)) (l .inv .0)
+returns-5 c =
+    let a = c .before .before .before .args in
+    let s = a .s .now in
+    let l = c .before .loop in
+    numbers.leading-is (a .hi) _ (l .n) (l .inv .1 ∙ numbers.digits-spent s (l .i) (l .n) (c .loop-test .left)) (l .inv .0)
 
 pub digits-spec : {M : Type 1} → statement M
 digits-spec =

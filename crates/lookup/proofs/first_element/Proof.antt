@@ -9,7 +9,7 @@ opened-requires : tie.Need-opened-requires
 opened-requires c κs = search needs
 
 returns : tie.Need-returns
-returns c = record { means = items.first-items ((c .before .before) .args .s .now) ((c .before .before) .args .at) (c .opened .ensures); onward = c .opened .ensures .onward }
+returns c = record { means = items.first-items (c .before .before .args .s .now) (c .before .before .args .at) (c .opened .ensures); onward = c .opened .ensures .onward }
 
 pub first-element-spec : {M : Type 1} → statement M
 first-element-spec = tie.close (tie.spec opened-requires returns)

@@ -9,7 +9,7 @@ following-requires : tie.Need-following-requires
 following-requires c κs = search needs
 
 returns : tie.Need-returns
-returns c = record { means = items.next-items ((c .before .before) .args .s .now) ((c .before .before) .args .i) (c .following .ensures); onward = c .following .ensures .onward }
+returns c = record { means = items.next-items (c .before .before .args .s .now) (c .before .before .args .i) (c .following .ensures); onward = c .following .ensures .onward }
 
 pub next-element-spec : {M : Type 1} → statement M
 next-element-spec = tie.close (tie.spec following-requires returns)

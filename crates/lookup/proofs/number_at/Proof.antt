@@ -9,16 +9,25 @@ use Rattle.lookup.proofs.number_at.Statement.{statement}
 use Rattle.lookup.proofs.number_at.Tie as tie
 
 returns : tie.Need-returns
-returns c = let a = (c .before .before) .args in let s = a .s .now in numbers.number-cut (a .lo) (a .hi) s (a .at) (c .if1 .taken)
+returns c =
+    let a = c .before .before .args in
+    let s = a .s .now in
+    numbers.number-cut (a .lo) (a .hi) s (a .at) (c .if1 .taken)
 
 shared-slice-read-first : tie.Need-shared-slice-read-first
 shared-slice-read-first c = search needs
 
 returns-2 : tie.Need-returns-2
-returns-2 c = let a = (c .before .before .before .before) .args in let s = a .s .now in numbers.number-not (a .lo) (a .hi) s (a .at) ((c .before .before) .if1 .left) (digit-low _ (c .if2 .taken))
+returns-2 c =
+    let a = c .before .before .before .before .args in
+    let s = a .s .now in
+    numbers.number-not (a .lo) (a .hi) s (a .at) (c .before .before .if1 .left) (digit-low _ (c .if2 .taken))
 
 returns-3 : tie.Need-returns-3
-returns-3 c = let a = (c .before .before .before .before .before) .args in let s = a .s .now in numbers.number-not (a .lo) (a .hi) s (a .at) ((c .before .before .before) .if1 .left) (digit-high _ (c .if3 .taken))
+returns-3 c =
+    let a = c .before .before .before .before .before .args in
+    let s = a .s .now in
+    numbers.number-not (a .lo) (a .hi) s (a .at) (c .before .before .before .if1 .left) (digit-high _ (c .if3 .taken))
 
 digits-requires : tie.Need-digits-requires
 digits-requires c κs = search needs
@@ -27,16 +36,25 @@ enum-told : tie.Need-enum-told
 enum-told c = search needs
 
 returns-4 : tie.Need-returns-4
-returns-4 c = let a = (c .before .before .before .before .before .before .before .before) .args in let s = a .s .now in numbers.number-over (a .lo) (a .hi) s (a .at) ((c .before .before .before .before .before .before) .if1 .left) (digit _ ((c .before .before .before .before) .if2 .left) ((c .before .before .before) .if3 .left)) (ap viewNumber (sym (c .enum-told .given .1)) ∙ (c .before .before) .digits .ensures)
+returns-4 c =
+    let a = c .before .before .before .before .before .before .before .before .args in
+    let s = a .s .now in
+    numbers.number-over (a .lo) (a .hi) s (a .at) (c .before .before .before .before .before .before .if1 .left) (digit _ (c .before .before .before .before .if2 .left) (c .before .before .before .if3 .left)) (ap viewNumber (sym (c .enum-told .given .1)) ∙ c .before .before .digits .ensures)
 
 enum-known-n : tie.Need-enum-known-n
 enum-known-n c = search needs
 
 returns-5 : tie.Need-returns-5
-returns-5 c = let a = (c .before .before .before .before .before .before .before .before .before .before) .args in let s = a .s .now in numbers.number-low (a .lo) (a .hi) s (a .at) ((c .before .before .before .before .before .before .before .before) .if1 .left) (digit _ ((c .before .before .before .before .before .before) .if2 .left) ((c .before .before .before .before .before) .if3 .left)) _ (ap viewNumber (sym ((c .before .before) .n .given .1)) ∙ (c .before .before .before .before) .digits .ensures) (c .if4 .taken)
+returns-5 c =
+    let a = c .before .before .before .before .before .before .before .before .before .before .args in
+    let s = a .s .now in
+    numbers.number-low (a .lo) (a .hi) s (a .at) (c .before .before .before .before .before .before .before .before .if1 .left) (digit _ (c .before .before .before .before .before .before .if2 .left) (c .before .before .before .before .before .if3 .left)) _ (ap viewNumber (sym (c .before .before .n .given .1)) ∙ c .before .before .before .before .digits .ensures) (c .if4 .taken)
 
 returns-6 : tie.Need-returns-6
-returns-6 c = let a = (c .before .before .before .before .before .before .before .before .before .before) .args in let s = a .s .now in numbers.number-within (a .lo) (a .hi) s (a .at) ((c .before .before .before .before .before .before .before .before) .if1 .left) (digit _ ((c .before .before .before .before .before .before) .if2 .left) ((c .before .before .before .before .before) .if3 .left)) _ (ap viewNumber (sym ((c .before .before) .n .given .1)) ∙ (c .before .before .before .before) .digits .ensures) (c .if4 .left)
+returns-6 c =
+    let a = c .before .before .before .before .before .before .before .before .before .before .args in
+    let s = a .s .now in
+    numbers.number-within (a .lo) (a .hi) s (a .at) (c .before .before .before .before .before .before .before .before .if1 .left) (digit _ (c .before .before .before .before .before .before .if2 .left) (c .before .before .before .before .before .if3 .left)) _ (ap viewNumber (sym (c .before .before .n .given .1)) ∙ c .before .before .before .before .digits .ensures) (c .if4 .left)
 
 pub number-at-spec : {M : Type 1} → statement M
 number-at-spec =

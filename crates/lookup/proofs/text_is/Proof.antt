@@ -4,8 +4,6 @@ use Prim.Native.Nat.{_≤_, _-_}
 use native.Mathlib.Omega.{arith}
 use borrow.Author.Needs.{needs}
 use lib.ListN.{length, drop}
-use Rattle.json.specs.Names.{CharAt}
-use Rattle.json.specs.declared.Char.the-variants.{Close, Byte}
 use Rattle.json.specs.Read.{raw}
 use Rattle.base.specs.Bytes.{same}
 use Rattle.lookup.proofs.StringLaws as strings
@@ -28,28 +26,55 @@ enum-told : tie.Need-enum-told Inv-loop μ-loop
 enum-told c = search needs
 
 returns : tie.Need-returns Inv-loop μ-loop
-returns c = let a = (c .before .before .before .before .before .before) .args in let s = a .s .now in let l = (c .before .before .before) .loop in let e : CharAt s (l .p) Close = rw (c .enum-told .given .1) at ((c .before .before) .char-at .ensures) in strings.name-ended (raw (drop (l .p) s)) (a .k .now) (l .j) (l .inv .0) e ∙ sym (l .inv .1)
+returns c =
+    let a = c .before .before .before .before .before .before .args in
+    let s = a .s .now in
+    let l = c .before .before .before .loop in
+    let e = strings.char-close s (l .p) _ (c .before .before .char-at .ensures) (c .enum-told .given .1) in
+    strings.name-ended (raw (drop (l .p) s)) (a .k .now) (l .j) (l .inv .0) e ∙ sym (l .inv .1)
 
 enum-known-b : tie.Need-enum-known-b Inv-loop μ-loop
 enum-known-b c = search needs
 
 returns-2 : tie.Need-returns-2 Inv-loop μ-loop
-returns-2 c = let a = (c .before .before .before .before .before .before .before .before) .args in let s = a .s .now in let l = (c .before .before .before .before .before) .loop in let x : CharAt s (l .p) (Byte _ _) = rw ((c .before .before) .b .given .1) at ((c .before .before .before .before) .char-at .ensures) in sym (l .inv .1 ∙ strings.name-shorter (raw (drop (l .p) s)) (a .k .now) (l .j) _ _ (x .0) (c .if1 .taken))
+returns-2 c =
+    let a = c .before .before .before .before .before .before .before .before .args in
+    let s = a .s .now in
+    let l = c .before .before .before .before .before .loop in
+    let x = strings.char-byte s (l .p) _ (c .before .before .before .before .char-at .ensures) _ _ (c .before .before .b .given .1) in
+    sym (l .inv .1 ∙ strings.name-shorter (raw (drop (l .p) s)) (a .k .now) (l .j) _ _ (x .0) (c .if1 .taken))
 
 shared-slice-read-if2 : tie.Need-shared-slice-read-if2 Inv-loop μ-loop
 shared-slice-read-if2 c = search needs
 
 returns-3 : tie.Need-returns-3 Inv-loop μ-loop
-returns-3 c = let a = (c .before .before .before .before .before .before .before .before .before .before) .args in let s = a .s .now in let l = (c .before .before .before .before .before .before .before) .loop in let x : CharAt s (l .p) (Byte _ _) = rw ((c .before .before .before .before) .b .given .1) at ((c .before .before .before .before .before .before) .char-at .ensures) in sym (l .inv .1 ∙ strings.name-differs (raw (drop (l .p) s)) (a .k .now) (l .j) _ _ (x .0) ((c .before .before) .if1 .left) (c .if2 .taken))
+returns-3 c =
+    let a = c .before .before .before .before .before .before .before .before .before .before .args in
+    let s = a .s .now in
+    let l = c .before .before .before .before .before .before .before .loop in
+    let x = strings.char-byte s (l .p) _ (c .before .before .before .before .before .before .char-at .ensures) _ _ (c .before .before .before .before .b .given .1) in
+    sym (l .inv .1 ∙ strings.name-differs (raw (drop (l .p) s)) (a .k .now) (l .j) _ _ (x .0) (c .before .before .if1 .left) (c .if2 .taken))
 
 add-j : tie.Need-add-j Inv-loop μ-loop
 add-j c = search needs
 
 loop-less : tie.Need-loop-less Inv-loop μ-loop
-loop-less c = let a = (c .before .before .before .before .before .before .before .before .before .before) .args in let s = a .s .now in let l = (c .before .before .before .before .before .before .before) .loop in let x : CharAt s (l .p) (Byte _ _) = rw ((c .before .before .before .before) .b .given .1) at ((c .before .before .before .before .before .before) .char-at .ensures) in let m = x .1 in let n = x .2 in omega arith
+loop-less c =
+    let a = c .before .before .before .before .before .before .before .before .before .before .args in
+    let s = a .s .now in
+    let l = c .before .before .before .before .before .before .before .loop in
+    let x = strings.char-byte s (l .p) _ (c .before .before .before .before .before .before .char-at .ensures) _ _ (c .before .before .before .before .b .given .1) in
+    let m = x .1 in
+    let n = x .2 in
+    omega arith
 
 loop-again : tie.Need-loop-again Inv-loop μ-loop
-loop-again c = let a = (c .before .before .before .before .before .before .before .before .before .before) .args in let s = a .s .now in let l = (c .before .before .before .before .before .before .before) .loop in let x : CharAt s (l .p) (Byte _ _) = rw ((c .before .before .before .before) .b .given .1) at ((c .before .before .before .before .before .before) .char-at .ensures) in (omega arith, l .inv .1 ∙ strings.name-next (raw (drop (l .p) s)) (a .k .now) (l .j) _ _ (x .0) ((c .before .before) .if1 .left) (c .if2 .left))
+loop-again c =
+    let a = c .before .before .before .before .before .before .before .before .before .before .args in
+    let s = a .s .now in
+    let l = c .before .before .before .before .before .before .before .loop in
+    let x = strings.char-byte s (l .p) _ (c .before .before .before .before .before .before .char-at .ensures) _ _ (c .before .before .before .before .b .given .1) in
+    (omega arith, l .inv .1 ∙ strings.name-next (raw (drop (l .p) s)) (a .k .now) (l .j) _ _ (x .0) (c .before .before .if1 .left) (c .if2 .left))
 
 pub text-is-spec : {M : Type 1} → statement M
 text-is-spec =

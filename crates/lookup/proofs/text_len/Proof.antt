@@ -4,9 +4,8 @@ use Prim.Native.Nat.{_≤_, _+_, _-_}
 use native.Mathlib.Omega.{arith}
 use borrow.Author.Needs.{needs}
 use lib.ListN.{length, drop}
-use Rattle.json.specs.Names.{CharAt}
-use Rattle.json.specs.declared.Char.the-variants.{Close, Byte}
 use Rattle.json.specs.Read.{raw}
+use Rattle.lookup.proofs.StringLaws as strings
 use Rattle.lookup.proofs.text_len.Statement.{statement}
 use Rattle.lookup.proofs.text_len.Tie as tie
 
@@ -26,19 +25,46 @@ enum-told : tie.Need-enum-told Inv-loop μ-loop
 enum-told c = search needs
 
 returns : tie.Need-returns Inv-loop μ-loop
-returns c = let a = (c .before .before .before .before .before) .args in let s = a .s .now in let l = (c .before .before .before) .loop in let e : CharAt s (l .p) Close = rw (c .enum-told .given .1) at ((c .before .before) .char-at .ensures) in let z = ap length e in let k = l .inv .1 in omega arith
+returns c =
+    let a = c .before .before .before .before .before .args in
+    let s = a .s .now in
+    let l = c .before .before .before .loop in
+    let e = strings.char-close s (l .p) _ (c .before .before .char-at .ensures) (c .enum-told .given .1) in
+    let z = ap length e in
+    omega arith
 
 enum-known-next : tie.Need-enum-known-next Inv-loop μ-loop
 enum-known-next c = search needs
 
 add-n : tie.Need-add-n Inv-loop μ-loop
-add-n c = let a = (c .before .before .before .before .before .before) .args in let s = a .s .now in let l = (c .before .before .before .before) .loop in let x : CharAt s (l .p) (Byte _ _) = rw ((c .before) .next .given .1) at ((c .before .before .before) .char-at .ensures) in let m = x .1 in let n = x .2 in omega arith
+add-n c =
+    let a = c .before .before .before .before .before .before .args in
+    let s = a .s .now in
+    let l = c .before .before .before .before .loop in
+    let x = strings.char-byte s (l .p) _ (c .before .before .before .char-at .ensures) _ _ (c .before .next .given .1) in
+    let m = x .1 in
+    let n = x .2 in
+    omega arith
 
 loop-less : tie.Need-loop-less Inv-loop μ-loop
-loop-less c = let a = (c .before .before .before .before .before .before) .args in let s = a .s .now in let l = (c .before .before .before .before) .loop in let x : CharAt s (l .p) (Byte _ _) = rw ((c .before) .next .given .1) at ((c .before .before .before) .char-at .ensures) in let m = x .1 in let n = x .2 in omega arith
+loop-less c =
+    let a = c .before .before .before .before .before .before .args in
+    let s = a .s .now in
+    let l = c .before .before .before .before .loop in
+    let x = strings.char-byte s (l .p) _ (c .before .before .before .char-at .ensures) _ _ (c .before .next .given .1) in
+    let m = x .1 in
+    let n = x .2 in
+    omega arith
 
 loop-again : tie.Need-loop-again Inv-loop μ-loop
-loop-again c = let a = (c .before .before .before .before .before .before) .args in let s = a .s .now in let l = (c .before .before .before .before) .loop in let x : CharAt s (l .p) (Byte _ _) = rw ((c .before) .next .given .1) at ((c .before .before .before) .char-at .ensures) in let m = x .1 in let z = ap length (x .0) in let k = l .inv .1 in (omega arith, omega arith)
+loop-again c =
+    let a = c .before .before .before .before .before .before .args in
+    let s = a .s .now in
+    let l = c .before .before .before .before .loop in
+    let x = strings.char-byte s (l .p) _ (c .before .before .before .char-at .ensures) _ _ (c .before .next .given .1) in
+    let m = x .1 in
+    let z = ap length (x .0) in
+    (omega arith, omega arith)
 
 pub text-len-spec : {M : Type 1} → statement M
 text-len-spec =
