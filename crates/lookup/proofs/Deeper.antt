@@ -1,5 +1,4 @@
 -- What is valid at a depth is valid where one more is left.
-use mathlib.Core.Path.{_≡_}
 use Prim.Native.Nat.{ℕ, zero, suc}
 use Rattle.base.specs.Bytes.{Bytes}
 use Rattle.json.specs.Json.{Json, jnull, jtrue, jfalse, num, str, arr, obj, Items, inil, icons, Members, mnil, mcons, Valid, ValidItems, ValidMembers, ValidMore}

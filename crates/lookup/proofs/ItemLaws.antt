@@ -1,6 +1,6 @@
 -- Brackets at a place of the text, and the elements of an array one after the other.
-use mathlib.Core.Path.{_≡_, refl, sym, ap, _∙_}
-use mathlib.Core.List.{[], _∷_}
+use mathlib.Core.Path.{_≡_, refl, ap, _∙_}
+use mathlib.Core.List.{_∷_}
 use mathlib.Core.Bool.{true, false}
 use Prim.Native.Nat.{ℕ, suc, _≤_, _<_, _+_, _-_}
 use native.Mathlib.Omega.{arith}
@@ -9,7 +9,7 @@ use lib.ListN.{length, drop, getD}
 use borrow.Author.Tests.{eq-eqb, ne-eqb}
 use Rattle.base.specs.Bytes.{Bytes, isDigit}
 use Rattle.base.proofs.PlaceLaws.{at-cons, at-end}
-use Rattle.json.specs.Json.{Json, jnull, jtrue, jfalse, num, str, arr, obj, Items, inil, icons, Members, put, putItems, putMoreItems, Valid, ValidItems, maxDepth}
+use Rattle.json.specs.Json.{Json, jnull, jtrue, jfalse, num, str, arr, obj, Items, inil, icons, put, putMoreItems, Valid, ValidItems, maxDepth}
 use Rattle.json.specs.Read.{NoDigit}
 use Rattle.json.specs.Fields.{items}
 use Rattle.json.proofs.Puts.{put-arr, items-nil, items-cons, more-items-nil, more-items-cons}

@@ -1,11 +1,11 @@
 -- The search for a member by name, one member after the other.
 use mathlib.Core.Path.{_≡_, refl, sym, ap, _∙_}
 use mathlib.Core.Option.{Option, none, some, bind}
-use mathlib.Core.Bool.{Bool, true, false, cond}
+use mathlib.Core.Bool.{true, false, cond}
 use Prim.Native.Nat.{ℕ}
 use lib.ListN.{drop}
 use Rattle.base.specs.Bytes.{Bytes, same}
-use Rattle.json.specs.Json.{Json, Members, mnil, mcons}
+use Rattle.json.specs.Json.{Json, Members, mcons}
 use Rattle.json.specs.Read.{raw}
 use Rattle.json.specs.Fields.{members, lookup, field}
 use Rattle.lookup.specs.Place.{Stands, PlaceOf}

@@ -1,11 +1,10 @@
 -- The members of an object one after the other.
 use mathlib.Core.Path.{_≡_, refl, sym, ap, _∙_}
-use mathlib.Core.List.{[], _∷_}
+use mathlib.Core.List.{_∷_}
 use mathlib.Core.Option.{Option, none, some}
 use mathlib.Core.Bool.{true, false}
 use Prim.Native.Nat.{ℕ, suc, _≤_, _<_, _+_, _-_}
 use native.Mathlib.Omega.{arith}
-use lib.Dec.{eqb}
 use lib.ListN.{length, drop, getD}
 use Rattle.base.specs.Bytes.{Bytes}
 use Rattle.json.specs.Json.{Json, jnull, jtrue, jfalse, num, str, arr, obj, Members, mnil, mcons, put, putStr, putBytes, putMoreMembers, Valid, ValidStr, ValidMembers, maxDepth}
@@ -14,7 +13,7 @@ use Rattle.json.specs.Fields.{members}
 use Rattle.json.specs.declared.Skip.the-variants as skip
 use Rattle.json.proofs.Puts.{put-str, put-obj, members-nil, members-cons, more-members-nil, more-members-cons}
 use Rattle.json.proofs.Complete.{complete}
-use Rattle.json.proofs.Rest.{Located, located, chars-fits, refused}
+use Rattle.json.proofs.Rest.{located, chars-fits, refused}
 use Rattle.lookup.specs.Place.{Stands}
 use Rattle.lookup.specs.Walk.{closes, opens, Opens, Follows, MemberAt, MemberAfter, MembersLeft, members-end, members-at, MembersOf}
 use Rattle.lookup.specs.declared.Element.{Element}

@@ -10,9 +10,8 @@ use lib.Seq.{drop-drop, drop-at}
 use borrow.Author.Tests.{leb-true, leb-false}
 use Rattle.base.specs.Bytes.{Bytes}
 use Rattle.base.proofs.PlaceLaws.{at-cons, at-end}
-use Rattle.json.specs.Json.{Json, put, Valid, Canonical, maxDepth}
-use Rattle.json.specs.Read.{Got, bad, got, endOf, read}
-use Rattle.json.specs.declared.Skip.{Skip}
+use Rattle.json.specs.Json.{Json, put, Canonical, maxDepth}
+use Rattle.json.specs.Read.{Got, got, endOf, read}
 use Rattle.json.specs.declared.Skip.the-variants as skip
 use Rattle.json.proofs.Complete.{complete}
 use Rattle.json.proofs.Rest.{located, read-fits}

@@ -1,19 +1,19 @@
 -- Strings in a text: where one begins, its bytes, and copying them.
 use mathlib.Core.Path.{_≡_, refl, sym, ap, _∙_}
-use mathlib.Core.List.{[], _∷_, _++_, append-nil}
+use mathlib.Core.List.{[], _∷_, _++_}
 use mathlib.Core.Option.{Option, none, some}
 use mathlib.Core.Bool.{Bool, true, false, cond}
-use Prim.Native.Nat.{ℕ, _≤_, _<_, _+_, _-_}
+use Prim.Native.Nat.{ℕ, _≤_, _<_, _+_}
 use native.Mathlib.Omega.{arith}
 use native.Mathlib.Numerals.{add-one}
 use lib.Dec.{eqb, leb}
 use lib.ListN.{length, drop, take, getD, set, length-append, length-drop}
 use lib.Seq.{sets, sets-eq, take-at}
-use borrow.Author.Tests.{eq-eqb, ne-eqb, eqb-true, eqb-false, le-leb, lt-leb, leb-true, leb-false}
+use borrow.Author.Tests.{ne-eqb, eqb-true, eqb-false, le-leb, lt-leb, leb-true, leb-false}
 use Rattle.base.specs.Bytes.{Bytes, same}
 use Rattle.base.proofs.PlaceLaws.{at-cons, at-end}
 use Rattle.base.proofs.ByteLaws.{same-none, same-cons, same-differ, same-lengths}
-use Rattle.json.specs.Json.{Json, jnull, jtrue, jfalse, num, str, arr, obj, put, putBytes, Valid, isEscaped}
+use Rattle.json.specs.Json.{Json, jnull, jtrue, jfalse, num, str, arr, obj, putBytes, isEscaped}
 use Rattle.json.specs.Read.{raw}
 use Rattle.json.specs.Names.{CharAt}
 use Rattle.json.specs.declared.Char.{Char}

@@ -1,5 +1,5 @@
 // Values inside a canonical text, by place: members by name, elements in order, strings, numbers.
-// A place is an index into the text. Nothing is copied, and nothing is validated again.
+// A place is an index into the text. The text was validated before: where no value stands at a place, the answer is any that ends.
 ghost use mathlib.Core.Path.{_≡_};
 ghost use lib.ListN.{length, drop};
 ghost use Rattle.base.specs.Bytes.{same};
@@ -17,7 +17,7 @@ pub enum Found {
     At(usize),
 }
 
-// Just past the value at `at`.
+// Just past the value at `at`. The contract speaks of values that stand there, so a skip that does not validate may take the reader's place.
 pub fn value_end(s: &[u8], at: usize) -> Found
     ensures { λ r. ⌜ EndsAt (now (s .entry)) at r ⌝ }
 {
@@ -40,7 +40,7 @@ pub enum Element {
     At(usize),
 }
 
-// What follows the opening byte at `at`: the closing byte, or the first element.
+// What follows the opening byte at `at`: the closing byte, or the first element or member.
 fn opened(s: &[u8], at: usize, start: u8, close: u8) -> Element
     ensures { λ r. ⌜ Opens (now (s .entry)) at start close r ⌝ }
 {
@@ -60,7 +60,7 @@ fn opened(s: &[u8], at: usize, start: u8, close: u8) -> Element
     Element::At(i)
 }
 
-// What follows the element at `i`: the closing byte, or a comma and the next element.
+// What follows the value at `i`: the closing byte, or a comma and the next element or member.
 fn following(s: &[u8], i: usize, close: u8) -> Element
     ensures { λ r. ⌜ Follows (now (s .entry)) i close r ⌝ }
 {

@@ -24,12 +24,12 @@ text-len-requires c κs = search needs
 returns : tie.Need-returns Inv-loop μ-loop
 returns c =
     let len = c .before .text-len .ensures in
-    strings.copy-refused (raw (drop (c .before .before .before .before .args .i) (c .before .before .before .before .args .s .now))) (c .before .before .before .before .args .out .now) (omega arith)
+    strings.copy-refused _ _ (omega arith)
 
 loop-holds : tie.Need-loop-holds Inv-loop μ-loop
 loop-holds c =
     let len = c .before .text-len .ensures in
-    (omega arith, refl, strings.copied-sets (raw (drop (c .before .before .before .before .args .i) (c .before .before .before .before .args .s .now))) (c .before .before .before .before .args .out .now) (omega arith))
+    (omega arith, refl, strings.copied-sets _ _ (omega arith))
 
 char-at-requires : tie.Need-char-at-requires Inv-loop μ-loop
 char-at-requires c κs = search needs
@@ -47,7 +47,7 @@ returns-2 c =
     let l = c .before .before .before .loop in
     let e = strings.char-close s (l .p) _ (c .before .before .char-at .ensures) (c .enum-told .given .1) in
     let len = c .before .before .before .before .before .text-len .ensures in
-    strings.copy-done (raw (drop (c .before .before .before .before .before .before .before .before .args .i) (c .before .before .before .before .before .before .before .before .args .s .now))) (c .before .before .before .before .before .before .before .before .args .out .now) (omega (arith, c .before .before .before .before .if1 .left)) _ _ _ (l .inv .2) e
+    strings.copy-done _ _ (omega (arith, c .before .before .before .before .if1 .left)) _ _ _ (l .inv .2) e
 
 enum-known-b : tie.Need-enum-known-b Inv-loop μ-loop
 enum-known-b c = search needs

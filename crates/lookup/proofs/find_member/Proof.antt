@@ -1,6 +1,5 @@
 -- `find_member` meets its contract. The invariant: the members left hold what the whole object holds under the name.
 use mathlib.Core.Path.{sym, _∙_}
-use Prim.Native.Nat.{_-_}
 use borrow.Author.Needs.{needs}
 use Rattle.json.specs.Json.{Json}
 use Rattle.json.specs.Fields.{field}

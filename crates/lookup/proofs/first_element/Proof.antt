@@ -1,6 +1,5 @@
 -- `first_element` meets its contract.
 use borrow.Author.Needs.{needs}
-use Prim.Native.Nat.{_-_}
 use Rattle.lookup.proofs.ItemLaws as items
 use Rattle.lookup.proofs.first_element.Statement.{statement}
 use Rattle.lookup.proofs.first_element.Tie as tie
@@ -9,7 +8,7 @@ opened-requires : tie.Need-opened-requires
 opened-requires c κs = search needs
 
 returns : tie.Need-returns
-returns c = record { means = items.first-items (c .before .before .args .s .now) (c .before .before .args .at) (c .opened .ensures); onward = c .opened .ensures .onward }
+returns c = record { means = items.first-items _ _ (c .opened .ensures); onward = c .opened .ensures .onward }
 
 pub first-element-spec : {M : Type 1} → statement M
 first-element-spec = tie.close (tie.spec opened-requires returns)

@@ -1,6 +1,5 @@
 -- `next_element` meets its contract.
 use borrow.Author.Needs.{needs}
-use Prim.Native.Nat.{_-_}
 use Rattle.lookup.proofs.ItemLaws as items
 use Rattle.lookup.proofs.next_element.Statement.{statement}
 use Rattle.lookup.proofs.next_element.Tie as tie
@@ -9,7 +8,7 @@ following-requires : tie.Need-following-requires
 following-requires c κs = search needs
 
 returns : tie.Need-returns
-returns c = record { means = items.next-items (c .before .before .args .s .now) (c .before .before .args .i) (c .following .ensures); onward = c .following .ensures .onward }
+returns c = record { means = items.next-items _ _ (c .following .ensures); onward = c .following .ensures .onward }
 
 pub next-element-spec : {M : Type 1} → statement M
 next-element-spec = tie.close (tie.spec following-requires returns)

@@ -1,35 +1,34 @@
 -- `opened` meets its contract: one law for each way out.
 use borrow.Author.Needs.{needs}
 use mathlib.Core.Path.{sym, _∙_}
-use Prim.Native.Nat.{_-_}
 use native.Mathlib.Omega.{arith}
 use Rattle.lookup.proofs.ItemLaws as items
 use Rattle.lookup.proofs.opened.Statement.{statement}
 use Rattle.lookup.proofs.opened.Tie as tie
 
 returns : tie.Need-returns
-returns c = record { is = sym (items.open-cut (c .before .args .start) (c .before .args .close) (c .before .args .at) (c .before .args .s .now) (c .if1 .taken)); onward = tt }
+returns c = record { is = sym (items.open-cut _ _ _ _ (c .if1 .taken)); onward = tt }
 
 shared-slice-read-if2 : tie.Need-shared-slice-read-if2
 shared-slice-read-if2 c = search needs
 
 returns-2 : tie.Need-returns-2
-returns-2 c = record { is = sym (items.open-not (c .before .before .before .args .start) (c .before .before .before .args .close) (c .before .before .before .args .at) (c .before .before .before .args .s .now) (c .before .before .if1 .left) (c .if2 .taken)); onward = tt }
+returns-2 c = record { is = sym (items.open-not _ _ _ _ (c .before .before .if1 .left) (c .if2 .taken)); onward = tt }
 
 add-i : tie.Need-add-i
 add-i c = search needs
 
 returns-3 : tie.Need-returns-3
-returns-3 c = record { is = sym (items.open-here (c .before .before .before .before .args .start) (c .before .before .before .before .args .close) (c .before .before .before .before .args .at) (c .before .before .before .before .args .s .now) (c .before .before .before .if1 .left) (c .before .if2 .left) ∙ items.close-cut _ _ (c .before .before .before .before .args .s .now) _ (c .if3 .taken)); onward = tt }
+returns-3 c = record { is = sym (items.open-here _ _ _ _ (c .before .before .before .if1 .left) (c .before .if2 .left) ∙ items.close-cut _ _ _ _ (c .if3 .taken)); onward = tt }
 
 shared-slice-read-if4 : tie.Need-shared-slice-read-if4
 shared-slice-read-if4 c = search needs
 
 returns-4 : tie.Need-returns-4
-returns-4 c = record { is = sym (items.open-here (c .before .before .before .before .before .before .args .start) (c .before .before .before .before .before .before .args .close) (c .before .before .before .before .before .before .args .at) (c .before .before .before .before .before .before .args .s .now) (c .before .before .before .before .before .if1 .left) (c .before .before .before .if2 .left) ∙ items.close-here _ _ (c .before .before .before .before .before .before .args .s .now) _ (c .before .before .if3 .left) (c .if4 .taken)); onward = tt }
+returns-4 c = record { is = sym (items.open-here _ _ _ _ (c .before .before .before .before .before .if1 .left) (c .before .before .before .if2 .left) ∙ items.close-here _ _ _ _ (c .before .before .if3 .left) (c .if4 .taken)); onward = tt }
 
 returns-5 : tie.Need-returns-5
-returns-5 c = record { is = sym (items.open-here (c .before .before .before .before .before .before .args .start) (c .before .before .before .before .before .before .args .close) (c .before .before .before .before .before .before .args .at) (c .before .before .before .before .before .before .args .s .now) (c .before .before .before .before .before .if1 .left) (c .before .before .before .if2 .left) ∙ items.close-later _ _ (c .before .before .before .before .before .before .args .s .now) _ (c .before .before .if3 .left) (c .if4 .left)); onward = (omega arith, omega arith) }
+returns-5 c = record { is = sym (items.open-here _ _ _ _ (c .before .before .before .before .before .if1 .left) (c .before .before .before .if2 .left) ∙ items.close-later _ _ _ _ (c .before .before .if3 .left) (c .if4 .left)); onward = (omega arith, omega arith) }
 
 pub opened-spec : {M : Type 1} → statement M
 opened-spec =
