@@ -3,10 +3,12 @@ ghost use mathlib.Core.Path.{_≡_};
 ghost use mathlib.Core.Bool.{true};
 ghost use mathlib.Core.Logic.{_↔_};
 ghost use Prim.Native.Nat.{_+_, _≤_, _<_};
-ghost use lib.ListN.{length, drop};
+ghost use lib.ListN.{length, drop, getD};
 ghost use Rattle.base.specs.Bytes.{less};
 ghost use Rattle.json.specs.Lead.{leadOf};
-ghost use Rattle.json.specs.Read.{endOf, readStr, kindOf, word as wordOf, number as numberOf, array as arrayOf, object as objectOf, member as memberOf, rises, read, raw};
+ghost use Rattle.json.specs.Read.{endOf, chars, esc, readStr, kindOf, word as wordOf, number as numberOf, array as arrayOf, object as objectOf, member as memberOf, rises, read, raw};
+ghost use Rattle.json.specs.Strings.{Skips};
+ghost use Rattle.json.specs.declared.Skip.the-variants.{End};
 ghost use Rattle.json.specs.Names.{CharAt, lastOf};
 ghost use Rattle.json.specs.Json.{Canonical, maxDepth};
 
@@ -81,63 +83,111 @@ pub enum Skip {
     End(usize),
 }
 
-// The string whose opening quote stands just before `at`.
+// The first place from `at` on whose byte is not plain: below 32, a quote, a backslash, or above 127.
+fn plain_end(s: &[u8], at: usize) -> usize
+    ensures { λ r. ⌜ Skips (now (s .entry)) (readStr (drop at (now (s .entry)))) at (End r) ⌝ }
+{
+    let mut i = at;
+    while i < s.len() {
+        let b = s[i];
+        if b < 32 {
+            return i;
+        }
+        if b == 34 {
+            return i;
+        }
+        if b == 92 {
+            return i;
+        }
+        if 127 < b {
+            return i;
+        }
+        i += 1;
+    }
+    i
+}
+
+// The escape whose backslash stands just before `at`.
+fn escape_end(s: &[u8], at: usize) -> Skip
+    ensures { λ r. ⌜ Skips (now (s .entry)) (esc (drop at (now (s .entry)))) at r ⌝ }
+{
+    if s.len() <= at {
+        return Skip::No;
+    }
+    let c = s[at];
+    if c == 34 {
+        return Skip::End(at + 1);
+    }
+    if c == 92 {
+        return Skip::End(at + 1);
+    }
+    Skip::No
+}
+
+// The `more` bytes of a character from `at` on, the first of them from `lo` to `hi`.
+fn tail_end(s: &[u8], at: usize, more: u8, lo: u8, hi: u8) -> Skip
+    ensures { λ r. ⌜ Skips (now (s .entry)) (chars (drop at (now (s .entry))) more lo hi) at r ⌝ }
+{
+    let mut i = at;
+    let mut left = more;
+    let mut low = lo;
+    let mut high = hi;
+    while 0 < left {
+        if s.len() <= i {
+            return Skip::No;
+        }
+        let b = s[i];
+        if b < low {
+            return Skip::No;
+        }
+        if high < b {
+            return Skip::No;
+        }
+        left -= 1;
+        low = 128;
+        high = 191;
+        i += 1;
+    }
+    Skip::End(i)
+}
+
+// The escape or the character at i, where no quote stands.
+fn char_end(s: &[u8], i: usize) -> Skip
+    requires { ⌜ (i < length (now s)) × (getD (now s) i 0 ≡ 34 → ⊥) ⌝ }
+    ensures { λ r. ⌜ Skips (now (s .entry)) (readStr (drop i (now (s .entry)))) (i + 1) r ⌝ }
+{
+    let b = s[i];
+    let j = i + 1;
+    if b == 92 {
+        return escape_end(s, j);
+    }
+    match lead(b) {
+        LeadByte::Bad => {
+            return Skip::No;
+        }
+        LeadByte::Seq { more, lo, hi } => {
+            return tail_end(s, j, more, lo, hi);
+        }
+    }
+}
+
+// The string whose opening quote stands just before `at`: runs of plain bytes, and between them characters one by one.
 pub fn string(s: &[u8], at: usize) -> Skip
     ensures { λ r. ⌜ r ≡ endOf (length (now (s .entry))) (readStr (drop at (now (s .entry)))) ⌝ }
 {
-    let mut i = at;
-    let mut more: u8 = 0;
-    let mut lo: u8 = 0;
-    let mut hi: u8 = 0;
+    let mut i = plain_end(s, at);
     while i < s.len() {
-        let b = s[i];
-        if more == 0 {
-            if b == 34 {
-                return Skip::End(i + 1);
+        if s[i] == 34 {
+            return Skip::End(i + 1);
+        }
+        match char_end(s, i) {
+            Skip::No => {
+                return Skip::No;
             }
-            if b == 92 {
-                let j = i + 1;
-                if s.len() <= j {
-                    return Skip::No;
-                }
-                let c = s[j];
-                if c != 34 {
-                    if c != 92 {
-                        return Skip::No;
-                    }
-                }
-                i = j + 1;
-                lo = 0;
-                hi = 0;
-                continue;
-            }
-            match lead(b) {
-                LeadByte::Bad => {
-                    return Skip::No;
-                }
-                LeadByte::Seq {
-                    more: m,
-                    lo: l,
-                    hi: h,
-                } => {
-                    more = m;
-                    lo = l;
-                    hi = h;
-                    i += 1;
-                    continue;
-                }
+            Skip::End(e) => {
+                i = plain_end(s, e);
             }
         }
-        if b < lo {
-            return Skip::No;
-        }
-        if hi < b {
-            return Skip::No;
-        }
-        more -= 1;
-        lo = 128;
-        hi = 191;
-        i += 1;
     }
     Skip::No
 }
