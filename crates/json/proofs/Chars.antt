@@ -85,6 +85,9 @@ module _ (s : Bytes) (i : ℕ) where
       pub begun : (m lo hi : ℕ) → leadOf (getD s i 0) ≡ Seq m lo hi → endOf (length s) (readStr (drop i s)) ≡ endOf (length s) (chars (drop (i + 1) s) m lo hi)
       begun m lo hi e = rw (at-cons s i h, chars-start, ne-eqb _ _ f, ne-eqb _ _ g, e) (grown (length s) (getD s i 0) (chars (drop (i + 1) s) m lo hi))
 
+      pub control : getD s i 0 < 32 → endOf (length s) (readStr (drop i s)) ≡ No
+      control h = no-lead (sym (found 0 0 (getD s i 0) (omega arith) refl (omega arith)))
+
       pub plain : 32 ≤ getD s i 0 → getD s i 0 ≤ 127 → endOf (length s) (readStr (drop i s)) ≡ endOf (length s) (readStr (drop (i + 1) s))
       plain lo hi = begun 0 0 0 (sym (found 1 32 (getD s i 0) lo refl hi))
 

@@ -151,8 +151,8 @@ fn tail_end(s: &[u8], at: usize, more: u8, lo: u8, hi: u8) -> Skip
     Skip::End(i)
 }
 
-// The escape or the character at i, where no quote stands.
-fn char_end(s: &[u8], i: usize) -> Skip
+// What stands at i, where no quote stands: an escape, a run of plain bytes, or a character beyond ASCII.
+fn part_end(s: &[u8], i: usize) -> Skip
     requires { ⌜ (i < length (now s)) × (getD (now s) i 0 ≡ 34 → ⊥) ⌝ }
     ensures { λ r. ⌜ Skips (now (s .entry)) (readStr (drop i (now (s .entry)))) (i + 1) r ⌝ }
 {
@@ -160,6 +160,12 @@ fn char_end(s: &[u8], i: usize) -> Skip
     let j = i + 1;
     if b == 92 {
         return escape_end(s, j);
+    }
+    if b < 32 {
+        return Skip::No;
+    }
+    if b < 128 {
+        return Skip::End(plain_end(s, j));
     }
     match lead(b) {
         LeadByte::Bad => {
@@ -171,21 +177,21 @@ fn char_end(s: &[u8], i: usize) -> Skip
     }
 }
 
-// The string whose opening quote stands just before `at`: runs of plain bytes, and between them characters one by one.
+// The string whose opening quote stands just before `at`.
 pub fn string(s: &[u8], at: usize) -> Skip
     ensures { λ r. ⌜ r ≡ endOf (length (now (s .entry))) (readStr (drop at (now (s .entry)))) ⌝ }
 {
-    let mut i = plain_end(s, at);
+    let mut i = at;
     while i < s.len() {
         if s[i] == 34 {
             return Skip::End(i + 1);
         }
-        match char_end(s, i) {
+        match part_end(s, i) {
             Skip::No => {
                 return Skip::No;
             }
             Skip::End(e) => {
-                i = plain_end(s, e);
+                i = e;
             }
         }
     }
