@@ -15,6 +15,7 @@ pub mod NumberLaws
 pub mod Puts
 pub mod Sound
 pub mod Complete
+pub mod Deeper
 pub mod Canonical
 pub mod Examples
 pub mod Slices
