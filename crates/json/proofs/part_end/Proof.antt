@@ -1,70 +1,49 @@
 use borrow.Author.Needs.{needs}
-use mathlib.Core.Path.{_≡_, sym, _∙_}
+use mathlib.Core.Path.{sym, _∙_}
 use Prim.Native.Nat.{_+_, _<_}
 use native.Mathlib.Omega.{arith}
-use lib.ListN.{length, drop, getD}
-use Rattle.json.specs.Read.{endOf, esc, chars, readStr}
-use Rattle.json.specs.Strings.{Skips}
-use Rattle.json.specs.declared.Skip.the-variants.{No, End}
+use lib.ListN.{drop, getD}
+use Rattle.json.specs.Read.{esc, chars, readStr}
 use Rattle.json.proofs.Chars as chars-at
 use Rattle.json.proofs.part_end.Statement.{statement}
 use Rattle.json.proofs.part_end.Tie as tie
-use Rattle.json.proofs.part_end.Reads as reads
-use Rattle.json.proofs.part_end.Lts as lts
-use Rattle.json.proofs.escape_end.Reads as escape-end-reads
-use Rattle.json.proofs.lead.Reads as lead-reads
-use Rattle.json.proofs.plain_end.Reads as plain-end-reads
-use Rattle.json.proofs.tail_end.Reads as tail-end-reads
 
--- src/lib.rt:159:13
 shared-slice-read-b : tie.Need-shared-slice-read-b
 shared-slice-read-b c = search needs
 
--- src/lib.rt:160:13
 add-j : tie.Need-add-j
 add-j c = search needs
 
--- src/lib.rt:162:9
 escape-end-requires : tie.Need-escape-end-requires
 escape-end-requires c κs = search needs
 
--- src/lib.rt:162:9
 returns : tie.Need-returns
 returns c = let a = (c .before .before .before .before) .args in let s = a .s .now in let p = (c .before .before .before .before) .pre in chars-at.skips-from s (readStr (drop (a .i) s)) (esc (drop (a .i + 1) s)) (a .i + 1) (c .escape-end .result) (chars-at.backslash s (a .i) (p .0) ((c .before) .if1 .taken)) (c .escape-end .ensures)
 
--- src/lib.rt:165:9
 returns-2 : tie.Need-returns-2
 returns-2 c = let a = (c .before .before .before .before) .args in let s = a .s .now in let p = (c .before .before .before .before) .pre in chars-at.control s (a .i) (p .0) (p .1) ((c .before) .if1 .left) (c .if2 .taken)
 
--- src/lib.rt:168:26
 plain-end-requires : tie.Need-plain-end-requires
 plain-end-requires c κs = search needs
 
--- src/lib.rt:168:9
 returns-3 : tie.Need-returns-3
 returns-3 c = let a = (c .before .before .before .before .before .before) .args in let s = a .s .now in let p = (c .before .before .before .before .before .before) .pre in let h : getD s (a .i) 0 < 128 = (c .before) .if3 .taken in (chars-at.plain s (a .i) (p .0) (p .1) ((c .before .before .before) .if1 .left) ((c .before .before) .if2 .left) (omega arith) ∙ c .plain-end .ensures .0, c .plain-end .ensures .1)
 
--- src/lib.rt:170:11
 lead-requires : tie.Need-lead-requires
 lead-requires c κs = search needs
 
--- src/lib.rt:172:13
 enum-told : tie.Need-enum-told
 enum-told c = search needs
 
--- src/lib.rt:172:13
 returns-4 : tie.Need-returns-4
 returns-4 c = let a = (c .before .before .before .before .before .before .before .before) .args in let s = a .s .now in let p = (c .before .before .before .before .before .before .before .before) .pre in chars-at.no-lead s (a .i) (p .0) (p .1) ((c .before .before .before .before .before) .if1 .left) (sym ((c .before .before) .lead .ensures) ∙ c .enum-told .given .1)
 
--- src/lib.rt:174:25
 enum-known-more : tie.Need-enum-known-more
 enum-known-more c = search needs
 
--- src/lib.rt:175:13
 tail-end-requires : tie.Need-tail-end-requires
 tail-end-requires c κs = search needs
 
--- src/lib.rt:175:13
 returns-5 : tie.Need-returns-5
 returns-5 c = let a = (c .before .before .before .before .before .before .before .before .before .before) .args in let s = a .s .now in let p = (c .before .before .before .before .before .before .before .before .before .before) .pre in let w = (c .before .before) .more .given in let e = chars-at.begun s (a .i) (p .0) (p .1) ((c .before .before .before .before .before .before .before) .if1 .left) (w .0 .0) (w .0 .1 .0) (w .0 .1 .1 .0) (sym ((c .before .before .before .before) .lead .ensures) ∙ w .1) in chars-at.skips-from s (readStr (drop (a .i) s)) (chars (drop (a .i + 1) s) (w .0 .0) (w .0 .1 .0) (w .0 .1 .1 .0)) (a .i + 1) (c .tail-end .result) e (c .tail-end .ensures)
 

@@ -1,16 +1,14 @@
-use mathlib.Core.Path.{_≡_, refl, _∙_}
-use Prim.Native.Nat.{_≤_, _-_}
+use mathlib.Core.Path.{_∙_}
+use Prim.Native.Nat.{_-_}
 use native.Mathlib.Omega.{arith}
 use borrow.Author.Needs.{needs}
 use lib.ListN.{length, drop}
-use Rattle.json.specs.Read.{endOf, chars, readStr}
+use Rattle.json.specs.Read.{readStr}
 use Rattle.json.specs.Strings.{Skips}
 use Rattle.json.specs.declared.Skip.the-variants.{End}
 use Rattle.json.proofs.Chars as chars-at
 use Rattle.json.proofs.plain_end.Statement.{statement}
 use Rattle.json.proofs.plain_end.Tie as tie
-use Rattle.json.proofs.plain_end.Reads as reads
-use Rattle.json.proofs.plain_end.Lts as lts
 
 abbrev Inv-loop : tie.InvT-loop
 Inv-loop s at i₀ i = Skips s (readStr (drop at s)) at (End i)
@@ -18,43 +16,33 @@ Inv-loop s at i₀ i = Skips s (readStr (drop at s)) at (End i)
 abbrev μ-loop : tie.MeasureT-loop
 μ-loop s at i₀ i = length s - i
 
--- src/lib.rt:91:5
 loop-holds : tie.Need-loop-holds Inv-loop μ-loop
 loop-holds c = search needs
 
--- src/lib.rt:92:17
 shared-slice-read-b : tie.Need-shared-slice-read-b Inv-loop μ-loop
 shared-slice-read-b c = search needs
 
--- src/lib.rt:94:13
 returns : tie.Need-returns Inv-loop μ-loop
 returns c = (c .before .before .before) .loop .inv
 
--- src/lib.rt:97:13
 returns-2 : tie.Need-returns-2 Inv-loop μ-loop
 returns-2 c = (c .before .before .before .before) .loop .inv
 
--- src/lib.rt:100:13
 returns-3 : tie.Need-returns-3 Inv-loop μ-loop
 returns-3 c = (c .before .before .before .before .before) .loop .inv
 
--- src/lib.rt:103:13
 returns-4 : tie.Need-returns-4 Inv-loop μ-loop
 returns-4 c = (c .before .before .before .before .before .before) .loop .inv
 
--- src/lib.rt:105:9
 add-i : tie.Need-add-i Inv-loop μ-loop
 add-i c = search needs
 
--- src/lib.rt:91:5
 loop-less : tie.Need-loop-less Inv-loop μ-loop
 loop-less c = search needs
 
--- src/lib.rt:91:5
 loop-again : tie.Need-loop-again Inv-loop μ-loop
 loop-again c = let l = (c .before .before .before .before .before .before) .loop in (l .inv .0 ∙ chars-at.plain ((c .before .before .before .before .before .before .before) .args .s .now) (l .i) ((c .before .before .before .before .before) .loop-test .taken) ((c .before .before) .if2 .left) ((c .before) .if3 .left) ((c .before .before .before) .if1 .left) (c .if4 .left), omega arith)
 
--- src/lib.rt:87:1
 returns-5 : tie.Need-returns-5 Inv-loop μ-loop
 returns-5 c = (c .before) .loop .inv
 

@@ -3,15 +3,12 @@ use Prim.Native.Nat.{_+_, _-_}
 use native.Mathlib.Omega.{arith}
 use borrow.Author.Needs.{needs}
 use lib.ListN.{length, drop}
-use Rattle.json.specs.Read.{endOf, esc, chars, readStr}
+use Rattle.json.specs.Read.{endOf, readStr}
 use Rattle.json.specs.Strings.{Skips}
 use Rattle.json.specs.declared.Skip.the-variants.{No, End}
 use Rattle.json.proofs.Chars as chars-at
 use Rattle.json.proofs.string.Statement.{statement}
 use Rattle.json.proofs.string.Tie as tie
-use Rattle.json.proofs.string.Reads as reads
-use Rattle.json.proofs.string.Lts as lts
-use Rattle.json.proofs.part_end.Reads as part-end-reads
 
 abbrev Inv-loop : tie.InvT-loop
 Inv-loop s at i₀ i = endOf (length s) (readStr (drop at s)) ≡ endOf (length s) (readStr (drop i s))
@@ -19,47 +16,36 @@ Inv-loop s at i₀ i = endOf (length s) (readStr (drop at s)) ≡ endOf (length 
 abbrev μ-loop : tie.MeasureT-loop
 μ-loop s at i₀ i = length s - i
 
--- src/lib.rt:182:5
 loop-holds : tie.Need-loop-holds Inv-loop μ-loop
 loop-holds c = search needs
 
--- src/lib.rt:183:12
 shared-slice-read-if1 : tie.Need-shared-slice-read-if1 Inv-loop μ-loop
 shared-slice-read-if1 c = search needs
 
--- src/lib.rt:184:30
 add-t9 : tie.Need-add-t9 Inv-loop μ-loop
 add-t9 c = search needs
 
--- src/lib.rt:184:13
 returns : tie.Need-returns Inv-loop μ-loop
 returns c = let s = (c .before .before .before .before .before) .args .s .now in let l = (c .before .before .before) .loop in sym (l .inv ∙ chars-at.quote s (l .i) ((c .before .before) .loop-test .taken) (c .if1 .taken))
 
--- src/lib.rt:186:15
 part-end-requires : tie.Need-part-end-requires Inv-loop μ-loop
 part-end-requires c κs = ((c .before .before) .loop-test .taken, c .if1 .left)
 
--- src/lib.rt:188:17
 enum-told : tie.Need-enum-told Inv-loop μ-loop
 enum-told c = search needs
 
--- src/lib.rt:188:17
 returns-2 : tie.Need-returns-2 Inv-loop μ-loop
 returns-2 c = let s = (c .before .before .before .before .before .before .before .before) .args .s .now in let l = (c .before .before .before .before .before .before) .loop in let e : Skips s (readStr (drop (l .i) s)) (l .i + 1) No = rw (c .enum-told .given .1) at ((c .before .before) .part-end .ensures) in sym (l .inv ∙ e)
 
--- src/lib.rt:190:23
 enum-known-e : tie.Need-enum-known-e Inv-loop μ-loop
 enum-known-e c = search needs
 
--- src/lib.rt:182:5
 loop-less : tie.Need-loop-less Inv-loop μ-loop
 loop-less c = let s = (c .before .before .before .before .before .before .before .before .before) .args .s .now in let l = (c .before .before .before .before .before .before .before) .loop in let e : Skips s (readStr (drop (l .i) s)) (l .i + 1) (End ((c .before) .e .given .0 .0)) = rw ((c .before) .e .given .1) at ((c .before .before .before) .part-end .ensures) in omega (arith, e .1, (c .before .before .before .before .before .before) .loop-test .taken)
 
--- src/lib.rt:182:5
 loop-again : tie.Need-loop-again Inv-loop μ-loop
 loop-again c = let s = (c .before .before .before .before .before .before .before .before .before) .args .s .now in let l = (c .before .before .before .before .before .before .before) .loop in let e : Skips s (readStr (drop (l .i) s)) (l .i + 1) (End ((c .before) .e .given .0 .0)) = rw ((c .before) .e .given .1) at ((c .before .before .before) .part-end .ensures) in l .inv ∙ e .0
 
--- src/lib.rt:178:1
 returns-3 : tie.Need-returns-3 Inv-loop μ-loop
 returns-3 c = let s = (c .before .before .before) .args .s .now in let l = (c .before) .loop in sym (l .inv ∙ chars-at.over s (l .i) 0 0 0 (c .loop-test .left))
 

@@ -1,16 +1,12 @@
-use mathlib.Core.Path.{_≡_, refl, _∙_}
-use Prim.Native.Nat.{_≤_, _-_}
+use mathlib.Core.Path.{_≡_, _∙_}
+use Prim.Native.Nat.{_≤_}
 use native.Mathlib.Omega.{arith}
 use borrow.Author.Needs.{needs}
 use lib.ListN.{length, drop}
-use Rattle.json.specs.Read.{endOf, chars, readStr}
-use Rattle.json.specs.Strings.{Skips}
-use Rattle.json.specs.declared.Skip.the-variants.{End}
+use Rattle.json.specs.Read.{endOf, chars}
 use Rattle.json.proofs.Chars as chars-at
 use Rattle.json.proofs.tail_end.Statement.{statement}
 use Rattle.json.proofs.tail_end.Tie as tie
-use Rattle.json.proofs.tail_end.Reads as reads
-use Rattle.json.proofs.tail_end.Lts as lts
 
 abbrev Inv-loop : tie.InvT-loop
 Inv-loop s at more lo hi i₀ left₀ low₀ high₀ i left low high = (endOf (length s) (chars (drop at s) more lo hi) ≡ endOf (length s) (chars (drop i s) left low high)) × (at ≤ i)
@@ -18,43 +14,33 @@ Inv-loop s at more lo hi i₀ left₀ low₀ high₀ i left low high = (endOf (l
 abbrev μ-loop : tie.MeasureT-loop
 μ-loop s at more lo hi i₀ left₀ low₀ high₀ i left low high = left
 
--- src/lib.rt:135:5
 loop-holds : tie.Need-loop-holds Inv-loop μ-loop
 loop-holds c = search needs
 
--- src/lib.rt:137:13
 returns : tie.Need-returns Inv-loop μ-loop
 returns c = let l = (c .before .before) .loop in l .inv .0 ∙ chars-at.over ((c .before .before .before) .args .s .now) (l .i) (l .left) (l .low) (l .high) (c .if1 .taken)
 
--- src/lib.rt:139:17
 shared-slice-read-b : tie.Need-shared-slice-read-b Inv-loop μ-loop
 shared-slice-read-b c = search needs
 
--- src/lib.rt:141:13
 returns-2 : tie.Need-returns-2 Inv-loop μ-loop
 returns-2 c = let l = (c .before .before .before .before) .loop in l .inv .0 ∙ chars-at.low ((c .before .before .before .before .before) .args .s .now) (l .i) ((c .before .before) .if1 .left) (l .left) (l .low) (l .high) ((c .before .before .before) .loop-test .taken) (c .if2 .taken)
 
--- src/lib.rt:144:13
 returns-3 : tie.Need-returns-3 Inv-loop μ-loop
 returns-3 c = let l = (c .before .before .before .before .before) .loop in l .inv .0 ∙ chars-at.high ((c .before .before .before .before .before .before) .args .s .now) (l .i) ((c .before .before .before) .if1 .left) (l .left) (l .low) (l .high) ((c .before .before .before .before) .loop-test .taken) ((c .before) .if2 .left) (c .if3 .taken)
 
--- src/lib.rt:146:9
 sub-left : tie.Need-sub-left Inv-loop μ-loop
 sub-left c = search needs
 
--- src/lib.rt:149:9
 add-i : tie.Need-add-i Inv-loop μ-loop
 add-i c = search needs
 
--- src/lib.rt:135:5
 loop-less : tie.Need-loop-less Inv-loop μ-loop
 loop-less c = search needs
 
--- src/lib.rt:135:5
 loop-again : tie.Need-loop-again Inv-loop μ-loop
 loop-again c = let l = (c .before .before .before .before .before) .loop in (l .inv .0 ∙ chars-at.onward ((c .before .before .before .before .before .before) .args .s .now) (l .i) ((c .before .before .before) .if1 .left) (l .left) (l .low) (l .high) ((c .before .before .before .before) .loop-test .taken) ((c .before) .if2 .left) (c .if3 .left), omega arith)
 
--- src/lib.rt:128:1
 returns-4 : tie.Need-returns-4 Inv-loop μ-loop
 returns-4 c = let l = (c .before) .loop in (l .inv .0 ∙ chars-at.spent ((c .before .before) .args .s .now) (l .i) (l .left) (l .low) (l .high) (omega arith), l .inv .1)
 
