@@ -9,7 +9,7 @@ use lib.Dec.{eqb}
 use borrow.Author.Tests.{eq-eqb, ne-eqb, eqb-true, eqb-false}
 use Rattle.json.specs.Json.{Json, jnull, jtrue, jfalse, num, str, arr, obj, Items, inil, icons, Members, mnil, mcons, put, putItems, putMoreItems, putMembers, putMoreMembers, putStr, putNum, Valid, ValidItems, ValidMembers, ValidMore, ValidStr, validNum, allDigits, isNil}
 use Rattle.json.specs.Read.{Got, got, elements, body, item, same, array, rises, member, named, mcons′, object, kindOf, read, NoDigit}
-use Rattle.json.specs.declared.Kind.the-variants.{Digit}
+use Rattle.json.proofs.KindLaws.{digit-kind}
 use Rattle.json.proofs.Rfc.{of-rfc}
 use Rattle.json.proofs.CharsLaws.{chars-complete}
 use Rattle.json.proofs.NumberLaws.{number-complete}
@@ -21,21 +21,6 @@ use Rattle.base.proofs.TestLaws.{never, both}
 use Rattle.base.proofs.ByteLaws.{digit-range}
 
 -- ## The first byte
-
-digit-kind : (b : ℕ) → isDigit b ≡ true → kindOf b ≡ Digit
-unfolding kindOf
-digit-kind b e =
-    let w = digit-range b e in
-    simp (
-      ne-eqb b 34 (λ (z : b ≡ 34). omega arith),
-      ne-eqb b 45 (λ (z : b ≡ 45). omega arith),
-      ne-eqb b 91 (λ (z : b ≡ 91). omega arith),
-      ne-eqb b 102 (λ (z : b ≡ 102). omega arith),
-      ne-eqb b 110 (λ (z : b ≡ 110). omega arith),
-      ne-eqb b 116 (λ (z : b ≡ 116). omega arith),
-      ne-eqb b 123 (λ (z : b ≡ 123). omega arith),
-      e,
-    )
 
 first-digit : (s : Bool) (b : ℕ) (t : Bytes) → validNum s (b ∷ t) ≡ true → isDigit b ≡ true
 first-digit s b t g = go (eqb b 48) refl g

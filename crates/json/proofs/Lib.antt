@@ -1,4 +1,5 @@
 pub mod Rows
+pub mod KindLaws
 pub mod Place
 pub mod Chars
 pub mod Cases

@@ -1,3 +1,4 @@
+-- `json::char_at` meets its contract, by the byte at `i`.
 use borrow.Author.Needs.{needs}
 use native.Mathlib.Omega.{arith}
 use borrow.Author.Needs.{needs}
@@ -6,19 +7,25 @@ use Rattle.json.proofs.char_at.Statement.{statement}
 use Rattle.json.proofs.char_at.Tie as tie
 
 returns : tie.Need-returns
-returns c = let a = (c .before) .args in names.over (a .s .now) (a .i) (c .if1 .taken)
+returns c =
+    let a = c .before .args in
+    names.over (a .s .now) (a .i) (c .if1 .taken)
 
 shared-slice-read-b : tie.Need-shared-slice-read-b
 shared-slice-read-b c = search needs
 
 returns-2 : tie.Need-returns-2
-returns-2 c = let a = (c .before .before .before) .args in names.closed (a .s .now) (a .i) ((c .before .before) .if1 .left) (c .if2 .taken)
+returns-2 c =
+    let a = c .before .before .before .args in
+    names.closed (a .s .now) (a .i) (c .before .before .if1 .left) (c .if2 .taken)
 
 add-j : tie.Need-add-j
 add-j c = search needs
 
 returns-3 : tie.Need-returns-3
-returns-3 c = let a = (c .before .before .before .before .before) .args in names.lone (a .s .now) (a .i) ((c .before .before .before .before) .if1 .left) ((c .before) .if3 .taken) (c .if4 .taken)
+returns-3 c =
+    let a = c .before .before .before .before .before .args in
+    names.lone (a .s .now) (a .i) (c .before .before .before .before .if1 .left) (c .before .if3 .taken) (c .if4 .taken)
 
 shared-slice-read-t12 : tie.Need-shared-slice-read-t12
 shared-slice-read-t12 c = search needs
@@ -27,10 +34,16 @@ add-t9 : tie.Need-add-t9
 add-t9 c = search needs
 
 returns-4 : tie.Need-returns-4
-returns-4 c = let a = (c .before .before .before .before .before .before) .args in let h = (c .before) .if4 .left in (names.escaped (a .s .now) (a .i) ((c .before .before .before .before .before) .if1 .left) ((c .before .before) .if3 .taken) ((c .before) .if4 .left), omega arith, omega arith)
+returns-4 c =
+    let a = c .before .before .before .before .before .before .args in
+    let h = c .before .if4 .left in
+    (names.escaped (a .s .now) (a .i) (c .before .before .before .before .before .if1 .left) (c .before .before .if3 .taken) h, omega arith, omega arith)
 
 returns-5 : tie.Need-returns-5
-returns-5 c = let a = (c .before .before .before .before) .args in let h = (c .before .before .before) .if1 .left in (names.byte (a .s .now) (a .i) ((c .before .before .before) .if1 .left) ((c .before) .if2 .left) (c .if3 .left), omega arith, omega arith)
+returns-5 c =
+    let a = c .before .before .before .before .args in
+    let h = c .before .before .before .if1 .left in
+    (names.byte (a .s .now) (a .i) h (c .before .if2 .left) (c .if3 .left), omega arith, omega arith)
 
 pub char-at-spec : {M : Type 1} → statement M
 char-at-spec =

@@ -1,3 +1,4 @@
+-- `json::in_order` meets its contract.
 use borrow.Author.Needs.{needs}
 use Rattle.json.proofs.in_order.Statement.{statement}
 use Rattle.json.proofs.in_order.Tie as tie
@@ -15,9 +16,7 @@ name-less-requires : tie.Need-name-less-requires
 name-less-requires c κs = search needs
 
 returns-2 : tie.Need-returns-2
-returns-2 c =
-    let a = c .before .before .before .before .before .args in
-    rw (c .before .before .last .given .1) (c .name-less .ensures)
+returns-2 c = rw (c .before .before .last .given .1) (c .name-less .ensures)
 
 pub in-order-spec : {M : Type 1} → statement M
 in-order-spec = tie.close (tie.spec enum-told returns enum-known-last name-less-requires returns-2)

@@ -1,3 +1,4 @@
+-- `json::is_canonical` meets its contract: soundness and completeness of the reader.
 use mathlib.Core.Path.{sym, _∙_}
 use borrow.Author.Needs.{needs}
 use Rattle.json.proofs.Canonical.{verdict-no, verdict-end}

@@ -1,3 +1,4 @@
+-- `json::name_less` meets its contract. The invariant: the names compare as their rests from `i` and `j` on.
 use mathlib.Core.Path.{_≡_, sym, _∙_}
 use Prim.Native.Nat.{_-_}
 use native.Mathlib.Omega.{arith}
@@ -27,7 +28,11 @@ enum-told : tie.Need-enum-told Inv-loop μ-loop
 enum-told c = search needs
 
 returns : tie.Need-returns Inv-loop μ-loop
-returns c = let a = (c .before .before .before .before .before) .args in let s = a .s .now in let l = (c .before .before .before) .loop in let e : CharAt s (l .j) Close = rw (c .enum-told .given .1) at ((c .before .before) .char-at .ensures) in sym (l .inv ∙ names.less-end (raw (drop (l .i) s)) (raw (drop (l .j) s)) e)
+returns c =
+    let l = c .before .before .before in
+    let s = l .before .before .args .s .now in
+    let y : CharAt s (l .loop .j) Close = rw (c .enum-told .given .1) at (c .before .before .char-at .ensures) in
+    sym (l .loop .inv ∙ names.less-end (raw (drop (l .loop .i) s)) (raw (drop (l .loop .j) s)) y)
 
 enum-known-y : tie.Need-enum-known-y Inv-loop μ-loop
 enum-known-y c = search needs
@@ -39,19 +44,38 @@ enum-told-2 : tie.Need-enum-told-2 Inv-loop μ-loop
 enum-told-2 c = search needs
 
 returns-2 : tie.Need-returns-2 Inv-loop μ-loop
-returns-2 c = let a = (c .before .before .before .before .before .before .before .before .before) .args in let s = a .s .now in let l = (c .before .before .before .before .before .before .before) .loop in let y : CharAt s (l .j) (Byte ((c .before .before .before .before) .y .given .0 .0) ((c .before .before .before .before) .y .given .0 .1 .0)) = rw ((c .before .before .before .before) .y .given .1) at ((c .before .before .before .before .before .before) .char-at .ensures) in let e : CharAt s (l .i) Close = rw (c .enum-told2 .given .1) at ((c .before .before) .char-at2 .ensures) in sym (l .inv ∙ names.less-short (raw (drop (l .i) s)) (raw (drop (l .j) s)) _ _ e (y .0))
+returns-2 c =
+    let l = c .before .before .before .before .before .before .before in
+    let s = l .before .before .args .s .now in
+    let y : CharAt s (l .loop .j) (Byte (c .before .before .before .before .y .given .0 .0) (c .before .before .before .before .y .given .0 .1 .0)) = rw (c .before .before .before .before .y .given .1) at (c .before .before .before .before .before .before .char-at .ensures) in
+    let x : CharAt s (l .loop .i) Close = rw (c .enum-told2 .given .1) at (c .before .before .char-at2 .ensures) in
+    sym (l .loop .inv ∙ names.less-short (raw (drop (l .loop .i) s)) (raw (drop (l .loop .j) s)) _ _ x (y .0))
 
 enum-known-x : tie.Need-enum-known-x Inv-loop μ-loop
 enum-known-x c = search needs
 
 returns-3 : tie.Need-returns-3 Inv-loop μ-loop
-returns-3 c = let a = (c .before .before .before .before .before .before .before .before .before .before .before) .args in let s = a .s .now in let l = (c .before .before .before .before .before .before .before .before .before) .loop in let y : CharAt s (l .j) (Byte ((c .before .before .before .before .before .before) .y .given .0 .0) ((c .before .before .before .before .before .before) .y .given .0 .1 .0)) = rw ((c .before .before .before .before .before .before) .y .given .1) at ((c .before .before .before .before .before .before .before .before) .char-at .ensures) in let x : CharAt s (l .i) (Byte ((c .before .before) .x .given .0 .0) ((c .before .before) .x .given .0 .1 .0)) = rw ((c .before .before) .x .given .1) at ((c .before .before .before .before) .char-at2 .ensures) in sym (l .inv ∙ names.less-differ (raw (drop (l .i) s)) (raw (drop (l .j) s)) _ _ _ _ (x .0) (y .0) (c .if1 .taken))
+returns-3 c =
+    let l = c .before .before .before .before .before .before .before .before .before in
+    let s = l .before .before .args .s .now in
+    let y : CharAt s (l .loop .j) (Byte (c .before .before .before .before .before .before .y .given .0 .0) (c .before .before .before .before .before .before .y .given .0 .1 .0)) = rw (c .before .before .before .before .before .before .y .given .1) at (c .before .before .before .before .before .before .before .before .char-at .ensures) in
+    let x : CharAt s (l .loop .i) (Byte (c .before .before .x .given .0 .0) (c .before .before .x .given .0 .1 .0)) = rw (c .before .before .x .given .1) at (c .before .before .before .before .char-at2 .ensures) in
+    sym (l .loop .inv ∙ names.less-differ (raw (drop (l .loop .i) s)) (raw (drop (l .loop .j) s)) _ _ _ _ (x .0) (y .0) (c .if1 .taken))
 
 loop-less : tie.Need-loop-less Inv-loop μ-loop
-loop-less c = let a = (c .before .before .before .before .before .before .before .before .before .before .before) .args in let s = a .s .now in let l = (c .before .before .before .before .before .before .before .before .before) .loop in let x : CharAt s (l .i) (Byte ((c .before .before) .x .given .0 .0) ((c .before .before) .x .given .0 .1 .0)) = rw ((c .before .before) .x .given .1) at ((c .before .before .before .before) .char-at2 .ensures) in let p = x .1 in let q = x .2 in omega arith
+loop-less c =
+    let l = c .before .before .before .before .before .before .before .before .before in
+    let s = l .before .before .args .s .now in
+    let x : CharAt s (l .loop .i) (Byte (c .before .before .x .given .0 .0) (c .before .before .x .given .0 .1 .0)) = rw (c .before .before .x .given .1) at (c .before .before .before .before .char-at2 .ensures) in
+    omega (arith, x .1, x .2)
 
 loop-again : tie.Need-loop-again Inv-loop μ-loop
-loop-again c = let a = (c .before .before .before .before .before .before .before .before .before .before .before) .args in let s = a .s .now in let l = (c .before .before .before .before .before .before .before .before .before) .loop in let y : CharAt s (l .j) (Byte ((c .before .before .before .before .before .before) .y .given .0 .0) ((c .before .before .before .before .before .before) .y .given .0 .1 .0)) = rw ((c .before .before .before .before .before .before) .y .given .1) at ((c .before .before .before .before .before .before .before .before) .char-at .ensures) in let x : CharAt s (l .i) (Byte ((c .before .before) .x .given .0 .0) ((c .before .before) .x .given .0 .1 .0)) = rw ((c .before .before) .x .given .1) at ((c .before .before .before .before) .char-at2 .ensures) in l .inv ∙ names.less-same (raw (drop (l .i) s)) (raw (drop (l .j) s)) _ _ _ _ (x .0) (y .0) (c .if1 .left)
+loop-again c =
+    let l = c .before .before .before .before .before .before .before .before .before in
+    let s = l .before .before .args .s .now in
+    let y : CharAt s (l .loop .j) (Byte (c .before .before .before .before .before .before .y .given .0 .0) (c .before .before .before .before .before .before .y .given .0 .1 .0)) = rw (c .before .before .before .before .before .before .y .given .1) at (c .before .before .before .before .before .before .before .before .char-at .ensures) in
+    let x : CharAt s (l .loop .i) (Byte (c .before .before .x .given .0 .0) (c .before .before .x .given .0 .1 .0)) = rw (c .before .before .x .given .1) at (c .before .before .before .before .char-at2 .ensures) in
+    l .loop .inv ∙ names.less-same (raw (drop (l .loop .i) s)) (raw (drop (l .loop .j) s)) _ _ _ _ (x .0) (y .0) (c .if1 .left)
 
 pub name-less-spec : {M : Type 1} → statement M
 name-less-spec =

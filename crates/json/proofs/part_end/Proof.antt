@@ -1,10 +1,11 @@
+-- `json::part_end` meets its contract: an escape, a plain byte and those after it, or a character beyond ASCII.
 use borrow.Author.Needs.{needs}
 use mathlib.Core.Path.{sym, _∙_}
 use Prim.Native.Nat.{_+_, _<_}
 use native.Mathlib.Omega.{arith}
 use lib.ListN.{drop, getD}
 use Rattle.json.specs.Read.{esc, chars, readStr}
-use Rattle.json.proofs.Chars as chars-at
+use Rattle.json.proofs.Chars as strings
 use Rattle.json.proofs.part_end.Statement.{statement}
 use Rattle.json.proofs.part_end.Tie as tie
 
@@ -18,16 +19,30 @@ escape-end-requires : tie.Need-escape-end-requires
 escape-end-requires c κs = search needs
 
 returns : tie.Need-returns
-returns c = let a = (c .before .before .before .before) .args in let s = a .s .now in let p = (c .before .before .before .before) .pre in chars-at.skips-from s (readStr (drop (a .i) s)) (esc (drop (a .i + 1) s)) (a .i + 1) (c .escape-end .result) (chars-at.backslash s (a .i) (p .0) ((c .before) .if1 .taken)) (c .escape-end .ensures)
+returns c =
+    let b = c .before .before .before .before in
+    let a = b .args in
+    let s = a .s .now in
+    strings.skips-from s (readStr (drop (a .i) s)) (esc (drop (a .i + 1) s)) (a .i + 1) (c .escape-end .result)
+    (strings.backslash s (a .i) (b .pre .0) (c .before .if1 .taken)) (c .escape-end .ensures)
 
 returns-2 : tie.Need-returns-2
-returns-2 c = let a = (c .before .before .before .before) .args in let s = a .s .now in let p = (c .before .before .before .before) .pre in chars-at.control s (a .i) (p .0) (p .1) ((c .before) .if1 .left) (c .if2 .taken)
+returns-2 c =
+    let b = c .before .before .before .before in
+    let a = b .args in
+    let s = a .s .now in
+    strings.control s (a .i) (b .pre .0) (b .pre .1) (c .before .if1 .left) (c .if2 .taken)
 
 plain-end-requires : tie.Need-plain-end-requires
 plain-end-requires c κs = search needs
 
 returns-3 : tie.Need-returns-3
-returns-3 c = let a = (c .before .before .before .before .before .before) .args in let s = a .s .now in let p = (c .before .before .before .before .before .before) .pre in let h : getD s (a .i) 0 < 128 = (c .before) .if3 .taken in (chars-at.plain s (a .i) (p .0) (p .1) ((c .before .before .before) .if1 .left) ((c .before .before) .if2 .left) (omega arith) ∙ c .plain-end .ensures .0, c .plain-end .ensures .1)
+returns-3 c =
+    let b = c .before .before .before .before .before .before in
+    let a = b .args in
+    let s = a .s .now in
+    let h : getD s (a .i) 0 < 128 = c .before .if3 .taken in
+    (strings.plain s (a .i) (b .pre .0) (b .pre .1) (c .before .before .before .if1 .left) (c .before .before .if2 .left) (omega arith) ∙ c .plain-end .ensures .0, c .plain-end .ensures .1)
 
 lead-requires : tie.Need-lead-requires
 lead-requires c κs = search needs
@@ -36,7 +51,11 @@ enum-told : tie.Need-enum-told
 enum-told c = search needs
 
 returns-4 : tie.Need-returns-4
-returns-4 c = let a = (c .before .before .before .before .before .before .before .before) .args in let s = a .s .now in let p = (c .before .before .before .before .before .before .before .before) .pre in chars-at.no-lead s (a .i) (p .0) (p .1) ((c .before .before .before .before .before) .if1 .left) (sym ((c .before .before) .lead .ensures) ∙ c .enum-told .given .1)
+returns-4 c =
+    let b = c .before .before .before .before .before .before .before .before in
+    let a = b .args in
+    let s = a .s .now in
+    strings.no-lead s (a .i) (b .pre .0) (b .pre .1) (c .before .before .before .before .before .if1 .left) (sym (c .before .before .lead .ensures) ∙ c .enum-told .given .1)
 
 enum-known-more : tie.Need-enum-known-more
 enum-known-more c = search needs
@@ -45,7 +64,16 @@ tail-end-requires : tie.Need-tail-end-requires
 tail-end-requires c κs = search needs
 
 returns-5 : tie.Need-returns-5
-returns-5 c = let a = (c .before .before .before .before .before .before .before .before .before .before) .args in let s = a .s .now in let p = (c .before .before .before .before .before .before .before .before .before .before) .pre in let w = (c .before .before) .more .given in let e = chars-at.begun s (a .i) (p .0) (p .1) ((c .before .before .before .before .before .before .before) .if1 .left) (w .0 .0) (w .0 .1 .0) (w .0 .1 .1 .0) (sym ((c .before .before .before .before) .lead .ensures) ∙ w .1) in chars-at.skips-from s (readStr (drop (a .i) s)) (chars (drop (a .i + 1) s) (w .0 .0) (w .0 .1 .0) (w .0 .1 .1 .0)) (a .i + 1) (c .tail-end .result) e (c .tail-end .ensures)
+returns-5 c =
+    let b = c .before .before .before .before .before .before .before .before .before .before in
+    let a = b .args in
+    let s = a .s .now in
+    let w = c .before .before .more .given in
+    let m = w .0 .0 in
+    let lo = w .0 .1 .0 in
+    let hi = w .0 .1 .1 .0 in
+    strings.skips-from s (readStr (drop (a .i) s)) (chars (drop (a .i + 1) s) m lo hi) (a .i + 1) (c .tail-end .result)
+    (strings.begun s (a .i) (b .pre .0) (b .pre .1) (c .before .before .before .before .before .before .before .if1 .left) m lo hi (sym (c .before .before .before .before .lead .ensures) ∙ w .1)) (c .tail-end .ensures)
 
 pub part-end-spec : {M : Type 1} → statement M
 part-end-spec =

@@ -1,3 +1,4 @@
+-- `json::plain_end` meets its contract: a plain byte is a character of its own.
 use mathlib.Core.Path.{_∙_}
 use Prim.Native.Nat.{_-_}
 use native.Mathlib.Omega.{arith}
@@ -6,7 +7,7 @@ use lib.ListN.{length, drop}
 use Rattle.json.specs.Read.{readStr}
 use Rattle.json.specs.Strings.{Skips}
 use Rattle.json.specs.declared.Skip.the-variants.{End}
-use Rattle.json.proofs.Chars as chars-at
+use Rattle.json.proofs.Chars as strings
 use Rattle.json.proofs.plain_end.Statement.{statement}
 use Rattle.json.proofs.plain_end.Tie as tie
 
@@ -41,7 +42,10 @@ loop-less : tie.Need-loop-less Inv-loop μ-loop
 loop-less c = search needs
 
 loop-again : tie.Need-loop-again Inv-loop μ-loop
-loop-again c = let l = (c .before .before .before .before .before .before) .loop in (l .inv .0 ∙ chars-at.plain ((c .before .before .before .before .before .before .before) .args .s .now) (l .i) ((c .before .before .before .before .before) .loop-test .taken) ((c .before .before) .if2 .left) ((c .before) .if3 .left) ((c .before .before .before) .if1 .left) (c .if4 .left), omega arith)
+loop-again c =
+    let l = c .before .before .before .before .before .before in
+    let s = l .before .args .s .now in
+    (l .loop .inv .0 ∙ strings.plain s (l .loop .i) (c .before .before .before .before .before .loop-test .taken) (c .before .before .if2 .left) (c .before .if3 .left) (c .before .before .before .if1 .left) (c .if4 .left), omega arith)
 
 returns-5 : tie.Need-returns-5 Inv-loop μ-loop
 returns-5 c = (c .before) .loop .inv

@@ -1,3 +1,4 @@
+-- `json::string` meets its contract. The invariant: the string ends where it ends when it is read from `i` on.
 use mathlib.Core.Path.{_≡_, sym, _∙_}
 use Prim.Native.Nat.{_+_, _-_}
 use native.Mathlib.Omega.{arith}
@@ -6,7 +7,7 @@ use lib.ListN.{length, drop}
 use Rattle.json.specs.Read.{endOf, readStr}
 use Rattle.json.specs.Strings.{Skips}
 use Rattle.json.specs.declared.Skip.the-variants.{No, End}
-use Rattle.json.proofs.Chars as chars-at
+use Rattle.json.proofs.Chars as strings
 use Rattle.json.proofs.string.Statement.{statement}
 use Rattle.json.proofs.string.Tie as tie
 
@@ -26,7 +27,10 @@ add-t9 : tie.Need-add-t9 Inv-loop μ-loop
 add-t9 c = search needs
 
 returns : tie.Need-returns Inv-loop μ-loop
-returns c = let s = (c .before .before .before .before .before) .args .s .now in let l = (c .before .before .before) .loop in sym (l .inv ∙ chars-at.quote s (l .i) ((c .before .before) .loop-test .taken) (c .if1 .taken))
+returns c =
+    let l = c .before .before .before in
+    let s = l .before .before .args .s .now in
+    sym (l .loop .inv ∙ strings.quote s (l .loop .i) (c .before .before .loop-test .taken) (c .if1 .taken))
 
 part-end-requires : tie.Need-part-end-requires Inv-loop μ-loop
 part-end-requires c κs = ((c .before .before) .loop-test .taken, c .if1 .left)
@@ -35,19 +39,34 @@ enum-told : tie.Need-enum-told Inv-loop μ-loop
 enum-told c = search needs
 
 returns-2 : tie.Need-returns-2 Inv-loop μ-loop
-returns-2 c = let s = (c .before .before .before .before .before .before .before .before) .args .s .now in let l = (c .before .before .before .before .before .before) .loop in let e : Skips s (readStr (drop (l .i) s)) (l .i + 1) No = rw (c .enum-told .given .1) at ((c .before .before) .part-end .ensures) in sym (l .inv ∙ e)
+returns-2 c =
+    let l = c .before .before .before .before .before .before in
+    let s = l .before .before .args .s .now in
+    let e : Skips s (readStr (drop (l .loop .i) s)) (l .loop .i + 1) No = rw (c .enum-told .given .1) at (c .before .before .part-end .ensures) in
+    sym (l .loop .inv ∙ e)
 
 enum-known-e : tie.Need-enum-known-e Inv-loop μ-loop
 enum-known-e c = search needs
 
 loop-less : tie.Need-loop-less Inv-loop μ-loop
-loop-less c = let s = (c .before .before .before .before .before .before .before .before .before) .args .s .now in let l = (c .before .before .before .before .before .before .before) .loop in let e : Skips s (readStr (drop (l .i) s)) (l .i + 1) (End ((c .before) .e .given .0 .0)) = rw ((c .before) .e .given .1) at ((c .before .before .before) .part-end .ensures) in omega (arith, e .1, (c .before .before .before .before .before .before) .loop-test .taken)
+loop-less c =
+    let l = c .before .before .before .before .before .before .before in
+    let s = l .before .before .args .s .now in
+    let e : Skips s (readStr (drop (l .loop .i) s)) (l .loop .i + 1) (End (c .before .e .given .0 .0)) = rw (c .before .e .given .1) at (c .before .before .before .part-end .ensures) in
+    omega (arith, e .1, c .before .before .before .before .before .before .loop-test .taken)
 
 loop-again : tie.Need-loop-again Inv-loop μ-loop
-loop-again c = let s = (c .before .before .before .before .before .before .before .before .before) .args .s .now in let l = (c .before .before .before .before .before .before .before) .loop in let e : Skips s (readStr (drop (l .i) s)) (l .i + 1) (End ((c .before) .e .given .0 .0)) = rw ((c .before) .e .given .1) at ((c .before .before .before) .part-end .ensures) in l .inv ∙ e .0
+loop-again c =
+    let l = c .before .before .before .before .before .before .before in
+    let s = l .before .before .args .s .now in
+    let e : Skips s (readStr (drop (l .loop .i) s)) (l .loop .i + 1) (End (c .before .e .given .0 .0)) = rw (c .before .e .given .1) at (c .before .before .before .part-end .ensures) in
+    l .loop .inv ∙ e .0
 
 returns-3 : tie.Need-returns-3 Inv-loop μ-loop
-returns-3 c = let s = (c .before .before .before) .args .s .now in let l = (c .before) .loop in sym (l .inv ∙ chars-at.over s (l .i) 0 0 0 (c .loop-test .left))
+returns-3 c =
+    let l = c .before in
+    let s = l .before .before .args .s .now in
+    sym (l .loop .inv ∙ strings.over s (l .loop .i) 0 0 0 (c .loop-test .left))
 
 pub string-spec : {M : Type 1} → statement M
 string-spec =

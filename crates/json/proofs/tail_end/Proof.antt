@@ -1,10 +1,11 @@
+-- `json::tail_end` meets its contract: each turn takes one byte of the character.
 use mathlib.Core.Path.{_≡_, _∙_}
 use Prim.Native.Nat.{_≤_}
 use native.Mathlib.Omega.{arith}
 use borrow.Author.Needs.{needs}
 use lib.ListN.{length, drop}
 use Rattle.json.specs.Read.{endOf, chars}
-use Rattle.json.proofs.Chars as chars-at
+use Rattle.json.proofs.Chars as strings
 use Rattle.json.proofs.tail_end.Statement.{statement}
 use Rattle.json.proofs.tail_end.Tie as tie
 
@@ -18,16 +19,25 @@ loop-holds : tie.Need-loop-holds Inv-loop μ-loop
 loop-holds c = search needs
 
 returns : tie.Need-returns Inv-loop μ-loop
-returns c = let l = (c .before .before) .loop in l .inv .0 ∙ chars-at.over ((c .before .before .before) .args .s .now) (l .i) (l .left) (l .low) (l .high) (c .if1 .taken)
+returns c =
+    let l = c .before .before in
+    let s = l .before .args .s .now in
+    l .loop .inv .0 ∙ strings.over s (l .loop .i) (l .loop .left) (l .loop .low) (l .loop .high) (c .if1 .taken)
 
 shared-slice-read-b : tie.Need-shared-slice-read-b Inv-loop μ-loop
 shared-slice-read-b c = search needs
 
 returns-2 : tie.Need-returns-2 Inv-loop μ-loop
-returns-2 c = let l = (c .before .before .before .before) .loop in l .inv .0 ∙ chars-at.low ((c .before .before .before .before .before) .args .s .now) (l .i) ((c .before .before) .if1 .left) (l .left) (l .low) (l .high) ((c .before .before .before) .loop-test .taken) (c .if2 .taken)
+returns-2 c =
+    let l = c .before .before .before .before in
+    let s = l .before .args .s .now in
+    l .loop .inv .0 ∙ strings.low s (l .loop .i) (c .before .before .if1 .left) (l .loop .left) (l .loop .low) (l .loop .high) (c .before .before .before .loop-test .taken) (c .if2 .taken)
 
 returns-3 : tie.Need-returns-3 Inv-loop μ-loop
-returns-3 c = let l = (c .before .before .before .before .before) .loop in l .inv .0 ∙ chars-at.high ((c .before .before .before .before .before .before) .args .s .now) (l .i) ((c .before .before .before) .if1 .left) (l .left) (l .low) (l .high) ((c .before .before .before .before) .loop-test .taken) ((c .before) .if2 .left) (c .if3 .taken)
+returns-3 c =
+    let l = c .before .before .before .before .before in
+    let s = l .before .args .s .now in
+    l .loop .inv .0 ∙ strings.high s (l .loop .i) (c .before .before .before .if1 .left) (l .loop .left) (l .loop .low) (l .loop .high) (c .before .before .before .before .loop-test .taken) (c .before .if2 .left) (c .if3 .taken)
 
 sub-left : tie.Need-sub-left Inv-loop μ-loop
 sub-left c = search needs
@@ -39,10 +49,16 @@ loop-less : tie.Need-loop-less Inv-loop μ-loop
 loop-less c = search needs
 
 loop-again : tie.Need-loop-again Inv-loop μ-loop
-loop-again c = let l = (c .before .before .before .before .before) .loop in (l .inv .0 ∙ chars-at.onward ((c .before .before .before .before .before .before) .args .s .now) (l .i) ((c .before .before .before) .if1 .left) (l .left) (l .low) (l .high) ((c .before .before .before .before) .loop-test .taken) ((c .before) .if2 .left) (c .if3 .left), omega arith)
+loop-again c =
+    let l = c .before .before .before .before .before in
+    let s = l .before .args .s .now in
+    (l .loop .inv .0 ∙ strings.onward s (l .loop .i) (c .before .before .before .if1 .left) (l .loop .left) (l .loop .low) (l .loop .high) (c .before .before .before .before .loop-test .taken) (c .before .if2 .left) (c .if3 .left), omega arith)
 
 returns-4 : tie.Need-returns-4 Inv-loop μ-loop
-returns-4 c = let l = (c .before) .loop in (l .inv .0 ∙ chars-at.spent ((c .before .before) .args .s .now) (l .i) (l .left) (l .low) (l .high) (omega arith), l .inv .1)
+returns-4 c =
+    let l = c .before in
+    let s = l .before .args .s .now in
+    (l .loop .inv .0 ∙ strings.spent s (l .loop .i) (l .loop .left) (l .loop .low) (l .loop .high) (omega arith), l .loop .inv .1)
 
 pub tail-end-spec : {M : Type 1} → statement M
 tail-end-spec =

@@ -1,3 +1,4 @@
+-- `json::word` meets its contract. The invariant: the word stands at `at` where its rest stands at `i`.
 use mathlib.Core.Path.{_≡_, sym, _∙_}
 use Prim.Native.Nat.{_≤_, _-_}
 use native.Mathlib.Omega.{arith}
