@@ -139,12 +139,12 @@ module _ (t : ℕ) where
 
   array-returns-4 : array-lts.Need-returns-4 (array-calls t) (array-at t) array.Post array-Inv-loop array-μ-loop
   array-returns-4 c =
-      let l = c .before .before .before .before .before .before in
+      let e = c .before .before in
+      let v = e .before .before in
+      let l = v .before .before in
       let a = l .before .before .before .before .before .args in
       let s = a .s .now in
-      let v = c .before .before .before .before in
-      let e = c .before .before .e .given in
-      sym (l .loop .inv ∙ loops.cut (arrays (a .depth)) s tt (l .loop .i) (e .0 .0) (sym (v .value .ensures) ∙ e .1) (c .if3 .taken))
+      sym (l .loop .inv ∙ loops.cut (arrays (a .depth)) s tt (l .loop .i) (e .e .given .0 .0) (sym (v .value .ensures) ∙ e .e .given .1) (c .if3 .taken))
 
   array-shared-slice-read-c : array-lts.Need-shared-slice-read-c (array-calls t) (array-at t) array.Post array-Inv-loop array-μ-loop
   array-shared-slice-read-c c = search needs
@@ -154,44 +154,44 @@ module _ (t : ℕ) where
 
   array-returns-5 : array-lts.Need-returns-5 (array-calls t) (array-at t) array.Post array-Inv-loop array-μ-loop
   array-returns-5 c =
-      let l = c .before .before .before .before .before .before .before .before in
+      let e = c .before .before .before .before in
+      let v = e .before .before in
+      let l = v .before .before in
       let a = l .before .before .before .before .before .args in
       let s = a .s .now in
-      let v = c .before .before .before .before .before .before in
-      let e = c .before .before .before .before .e .given in
-      sym (l .loop .inv ∙ loops.last (arrays (a .depth)) s tt (l .loop .i) (e .0 .0) (sym (v .value .ensures) ∙ e .1) (c .before .before .if3 .left) (c .if4 .taken))
+      sym (l .loop .inv ∙ loops.last (arrays (a .depth)) s tt (l .loop .i) (e .e .given .0 .0) (sym (v .value .ensures) ∙ e .e .given .1) (c .before .before .if3 .left) (c .if4 .taken))
 
   array-returns-6 : array-lts.Need-returns-6 (array-calls t) (array-at t) array.Post array-Inv-loop array-μ-loop
   array-returns-6 c =
-      let l = c .before .before .before .before .before .before .before .before .before in
+      let e = c .before .before .before .before .before in
+      let v = e .before .before in
+      let l = v .before .before in
       let a = l .before .before .before .before .before .args in
       let s = a .s .now in
-      let v = c .before .before .before .before .before .before .before in
-      let e = c .before .before .before .before .before .e .given in
-      sym (l .loop .inv ∙ loops.stray (arrays (a .depth)) s tt (l .loop .i) (e .0 .0) (sym (v .value .ensures) ∙ e .1) (c .before .before .before .if3 .left) (c .before .if4 .left) (c .if5 .taken))
+      sym (l .loop .inv ∙ loops.stray (arrays (a .depth)) s tt (l .loop .i) (e .e .given .0 .0) (sym (v .value .ensures) ∙ e .e .given .1) (c .before .before .before .if3 .left) (c .before .if4 .left) (c .if5 .taken))
 
   array-add-i : array-lts.Need-add-i (array-calls t) (array-at t) array.Post array-Inv-loop array-μ-loop
   array-add-i c = search needs
 
   array-loop-less : array-lts.Need-loop-less (array-calls t) (array-at t) array.Post array-Inv-loop array-μ-loop
   array-loop-less c =
-      let l = c .before .before .before .before .before .before .before .before .before in
+      let e = c .before .before .before .before .before in
+      let v = e .before .before in
+      let l = v .before .before in
       let a = l .before .before .before .before .before .args in
       let s = a .s .now in
-      let v = c .before .before .before .before .before .before .before in
-      let e = c .before .before .before .before .before .e .given in
-      let z = loops.element (arrays (a .depth)) s tt (l .loop .i) (e .0 .0) (sym (v .value .ensures) ∙ e .1) .after in
+      let z = loops.element (arrays (a .depth)) s tt (l .loop .i) (e .e .given .0 .0) (sym (v .value .ensures) ∙ e .e .given .1) .after in
       let h = c .before .before .before .if3 .left in
       omega arith
 
   array-loop-again : array-lts.Need-loop-again (array-calls t) (array-at t) array.Post array-Inv-loop array-μ-loop
   array-loop-again c =
-      let l = c .before .before .before .before .before .before .before .before .before in
+      let e = c .before .before .before .before .before in
+      let v = e .before .before in
+      let l = v .before .before in
       let a = l .before .before .before .before .before .args in
       let s = a .s .now in
-      let v = c .before .before .before .before .before .before .before in
-      let e = c .before .before .before .before .before .e .given in
-      l .loop .inv ∙ loops.onward (arrays (a .depth)) s tt (l .loop .i) (e .0 .0) (sym (v .value .ensures) ∙ e .1) (c .before .before .before .if3 .left) (c .before .if4 .left) (c .if5 .left)
+      l .loop .inv ∙ loops.onward (arrays (a .depth)) s tt (l .loop .i) (e .e .given .0 .0) (sym (v .value .ensures) ∙ e .e .given .1) (c .before .before .before .if3 .left) (c .before .if4 .left) (c .if5 .left)
 
   array-returns-7 : array-lts.Need-returns-7 (array-calls t) (array-at t) array.Post array-Inv-loop array-μ-loop
   array-returns-7 c =
@@ -242,13 +242,13 @@ module _ (t : ℕ) where
 
   object-returns-4 : object-lts.Need-returns-4 (object-calls t) (object-at t) object.Post object-Inv-loop object-μ-loop
   object-returns-4 c =
-      let l = c .before .before .before .before .before .before in
+      let e = c .before .before in
+      let v = e .before .before in
+      let l = v .before .before in
       let a = l .before .before .before .before .before .args in
       let s = a .s .now in
       let p = lastOf s (l .loop .last) in
-      let v = c .before .before .before .before in
-      let e = c .before .before .e .given in
-      sym (l .loop .inv ∙ loops.cut (objects (a .depth)) s p (l .loop .i) (e .0 .0) (sym (v .pair .ensures) ∙ e .1) (c .if3 .taken))
+      sym (l .loop .inv ∙ loops.cut (objects (a .depth)) s p (l .loop .i) (e .e .given .0 .0) (sym (v .pair .ensures) ∙ e .e .given .1) (c .if3 .taken))
 
   object-shared-slice-read-c : object-lts.Need-shared-slice-read-c (object-calls t) (object-at t) object.Post object-Inv-loop object-μ-loop
   object-shared-slice-read-c c = search needs
@@ -258,23 +258,23 @@ module _ (t : ℕ) where
 
   object-returns-5 : object-lts.Need-returns-5 (object-calls t) (object-at t) object.Post object-Inv-loop object-μ-loop
   object-returns-5 c =
-      let l = c .before .before .before .before .before .before .before .before in
+      let e = c .before .before .before .before in
+      let v = e .before .before in
+      let l = v .before .before in
       let a = l .before .before .before .before .before .args in
       let s = a .s .now in
       let p = lastOf s (l .loop .last) in
-      let v = c .before .before .before .before .before .before in
-      let e = c .before .before .before .before .e .given in
-      sym (l .loop .inv ∙ loops.last (objects (a .depth)) s p (l .loop .i) (e .0 .0) (sym (v .pair .ensures) ∙ e .1) (c .before .before .if3 .left) (c .if4 .taken))
+      sym (l .loop .inv ∙ loops.last (objects (a .depth)) s p (l .loop .i) (e .e .given .0 .0) (sym (v .pair .ensures) ∙ e .e .given .1) (c .before .before .if3 .left) (c .if4 .taken))
 
   object-returns-6 : object-lts.Need-returns-6 (object-calls t) (object-at t) object.Post object-Inv-loop object-μ-loop
   object-returns-6 c =
-      let l = c .before .before .before .before .before .before .before .before .before in
+      let e = c .before .before .before .before .before in
+      let v = e .before .before in
+      let l = v .before .before in
       let a = l .before .before .before .before .before .args in
       let s = a .s .now in
       let p = lastOf s (l .loop .last) in
-      let v = c .before .before .before .before .before .before .before in
-      let e = c .before .before .before .before .before .e .given in
-      sym (l .loop .inv ∙ loops.stray (objects (a .depth)) s p (l .loop .i) (e .0 .0) (sym (v .pair .ensures) ∙ e .1) (c .before .before .before .if3 .left) (c .before .if4 .left) (c .if5 .taken))
+      sym (l .loop .inv ∙ loops.stray (objects (a .depth)) s p (l .loop .i) (e .e .given .0 .0) (sym (v .pair .ensures) ∙ e .e .given .1) (c .before .before .before .if3 .left) (c .before .if4 .left) (c .if5 .taken))
 
   object-add-t16 : object-lts.Need-add-t16 (object-calls t) (object-at t) object.Post object-Inv-loop object-μ-loop
   object-add-t16 c = search needs
@@ -284,25 +284,25 @@ module _ (t : ℕ) where
 
   object-loop-less : object-lts.Need-loop-less (object-calls t) (object-at t) object.Post object-Inv-loop object-μ-loop
   object-loop-less c =
-      let l = c .before .before .before .before .before .before .before .before .before in
+      let e = c .before .before .before .before .before in
+      let v = e .before .before in
+      let l = v .before .before in
       let a = l .before .before .before .before .before .args in
       let s = a .s .now in
       let p = lastOf s (l .loop .last) in
-      let v = c .before .before .before .before .before .before .before in
-      let e = c .before .before .before .before .before .e .given in
-      let z = loops.element (objects (a .depth)) s p (l .loop .i) (e .0 .0) (sym (v .pair .ensures) ∙ e .1) .after in
+      let z = loops.element (objects (a .depth)) s p (l .loop .i) (e .e .given .0 .0) (sym (v .pair .ensures) ∙ e .e .given .1) .after in
       let h = c .before .before .before .if3 .left in
       omega arith
 
   object-loop-again : object-lts.Need-loop-again (object-calls t) (object-at t) object.Post object-Inv-loop object-μ-loop
   object-loop-again c =
-      let l = c .before .before .before .before .before .before .before .before .before in
+      let e = c .before .before .before .before .before in
+      let v = e .before .before in
+      let l = v .before .before in
       let a = l .before .before .before .before .before .args in
       let s = a .s .now in
       let p = lastOf s (l .loop .last) in
-      let v = c .before .before .before .before .before .before .before in
-      let e = c .before .before .before .before .before .e .given in
-      l .loop .inv ∙ members.onward (a .depth) p s (l .loop .i) (e .0 .0) (sym (v .pair .ensures) ∙ e .1) (c .before .before .before .if3 .left) (c .before .if4 .left) (c .if5 .left)
+      l .loop .inv ∙ members.onward (a .depth) p s (l .loop .i) (e .e .given .0 .0) (sym (v .pair .ensures) ∙ e .e .given .1) (c .before .before .before .if3 .left) (c .before .if4 .left) (c .if5 .left)
 
   object-returns-7 : object-lts.Need-returns-7 (object-calls t) (object-at t) object.Post object-Inv-loop object-μ-loop
   object-returns-7 c =
@@ -338,8 +338,9 @@ module _ (t : ℕ) where
 
   pair-returns-3 : pair-lts.Need-returns-3 (pair-calls t) (pair-at t) pair.Post
   pair-returns-3 c =
-      let a = c .before .before .before .before .before .before .before .args in
-      sym (members.no-name (read (a .depth)) (lastOf (a .s .now) (a .last)) (a .s .now) (a .i) (c .before .before .before .before .before .if1 .left) (c .before .before .before .if2 .left) (sym (c .before .before .string .ensures) ∙ c .enum-told .given .1))
+      let q = c .before .before .before in
+      let a = q .before .before .before .before .args in
+      sym (members.no-name (read (a .depth)) (lastOf (a .s .now) (a .last)) (a .s .now) (a .i) (q .before .before .if1 .left) (q .if2 .left) (sym (c .before .before .string .ensures) ∙ c .enum-told .given .1))
 
   pair-enum-known-e : pair-lts.Need-enum-known-e (pair-calls t) (pair-at t) pair.Post
   pair-enum-known-e c = search needs
@@ -349,27 +350,30 @@ module _ (t : ℕ) where
 
   pair-returns-4 : pair-lts.Need-returns-4 (pair-calls t) (pair-at t) pair.Post
   pair-returns-4 c =
-      let a = c .before .before .before .before .before .before .before .before .before .before .args in
-      let n = c .before .before .before .before .before in
-      let e = c .before .before .before .e .given in
-      sym (members.disorder (read (a .depth)) (lastOf (a .s .now) (a .last)) (a .s .now) (a .i) (c .before .before .before .before .before .before .before .before .if1 .left) (c .before .before .before .before .before .before .if2 .left) (e .0 .0) (sym (n .string .ensures) ∙ e .1) (sym (c .before .in-order .ensures) ∙ not-true _ (c .if3 .taken)))
+      let e = c .before .before .before in
+      let n = e .before .before in
+      let q = n .before in
+      let a = q .before .before .before .before .args in
+      sym (members.disorder (read (a .depth)) (lastOf (a .s .now) (a .last)) (a .s .now) (a .i) (q .before .before .if1 .left) (q .if2 .left) (e .e .given .0 .0) (sym (n .string .ensures) ∙ e .e .given .1) (sym (c .before .in-order .ensures) ∙ not-true _ (c .if3 .taken)))
 
   pair-returns-5 : pair-lts.Need-returns-5 (pair-calls t) (pair-at t) pair.Post
   pair-returns-5 c =
-      let a = c .before .before .before .before .before .before .before .before .before .before .before .args in
-      let n = c .before .before .before .before .before .before in
-      let e = c .before .before .before .before .e .given in
-      sym (members.cut (read (a .depth)) (lastOf (a .s .now) (a .last)) (a .s .now) (a .i) (c .before .before .before .before .before .before .before .before .before .if1 .left) (c .before .before .before .before .before .before .before .if2 .left) (e .0 .0) (sym (n .string .ensures) ∙ e .1) (c .if4 .taken) (sym (c .before .before .in-order .ensures) ∙ not-false _ (c .before .if3 .left)))
+      let e = c .before .before .before .before in
+      let n = e .before .before in
+      let q = n .before in
+      let a = q .before .before .before .before .args in
+      sym (members.cut (read (a .depth)) (lastOf (a .s .now) (a .last)) (a .s .now) (a .i) (q .before .before .if1 .left) (q .if2 .left) (e .e .given .0 .0) (sym (n .string .ensures) ∙ e .e .given .1) (c .if4 .taken) (sym (c .before .before .in-order .ensures) ∙ not-false _ (c .before .if3 .left)))
 
   pair-shared-slice-read-if5 : pair-lts.Need-shared-slice-read-if5 (pair-calls t) (pair-at t) pair.Post
   pair-shared-slice-read-if5 c = search needs
 
   pair-returns-6 : pair-lts.Need-returns-6 (pair-calls t) (pair-at t) pair.Post
   pair-returns-6 c =
-      let a = c .before .before .before .before .before .before .before .before .before .before .before .before .before .args in
-      let n = c .before .before .before .before .before .before .before .before in
-      let e = c .before .before .before .before .before .before .e .given in
-      sym (members.no-colon (read (a .depth)) (lastOf (a .s .now) (a .last)) (a .s .now) (a .i) (c .before .before .before .before .before .before .before .before .before .before .before .if1 .left) (c .before .before .before .before .before .before .before .before .before .if2 .left) (e .0 .0) (sym (n .string .ensures) ∙ e .1) (c .before .before .if4 .left) (c .if5 .taken) (sym (c .before .before .before .before .in-order .ensures) ∙ not-false _ (c .before .before .before .if3 .left)))
+      let e = c .before .before .before .before .before .before in
+      let n = e .before .before in
+      let q = n .before in
+      let a = q .before .before .before .before .args in
+      sym (members.no-colon (read (a .depth)) (lastOf (a .s .now) (a .last)) (a .s .now) (a .i) (q .before .before .if1 .left) (q .if2 .left) (e .e .given .0 .0) (sym (n .string .ensures) ∙ e .e .given .1) (c .before .before .if4 .left) (c .if5 .taken) (sym (c .before .before .before .before .in-order .ensures) ∙ not-false _ (c .before .before .before .if3 .left)))
 
   pair-add-value : pair-lts.Need-add-value (pair-calls t) (pair-at t) pair.Post
   pair-add-value c = search needs
@@ -379,10 +383,11 @@ module _ (t : ℕ) where
 
   pair-returns-7 : pair-lts.Need-returns-7 (pair-calls t) (pair-at t) pair.Post
   pair-returns-7 c =
-      let a = c .before .before .before .before .before .before .before .before .before .before .before .before .before .before .args in
-      let n = c .before .before .before .before .before .before .before .before .before in
-      let e = c .before .before .before .before .before .before .before .e .given in
-      c .value .ensures ∙ sym (members.then-value (read (a .depth)) (lastOf (a .s .now) (a .last)) (a .s .now) (a .i) (c .before .before .before .before .before .before .before .before .before .before .before .before .if1 .left) (c .before .before .before .before .before .before .before .before .before .before .if2 .left) (e .0 .0) (sym (n .string .ensures) ∙ e .1) (c .before .before .before .if4 .left) (c .before .if5 .left) (sym (c .before .before .before .before .before .in-order .ensures) ∙ not-false _ (c .before .before .before .before .if3 .left)))
+      let e = c .before .before .before .before .before .before .before in
+      let n = e .before .before in
+      let q = n .before in
+      let a = q .before .before .before .before .args in
+      c .value .ensures ∙ sym (members.then-value (read (a .depth)) (lastOf (a .s .now) (a .last)) (a .s .now) (a .i) (q .before .before .if1 .left) (q .if2 .left) (e .e .given .0 .0) (sym (n .string .ensures) ∙ e .e .given .1) (c .before .before .before .if4 .left) (c .before .if5 .left) (sym (c .before .before .before .before .before .in-order .ensures) ∙ not-false _ (c .before .before .before .before .if3 .left)))
 
   -- ## `value`
 
@@ -408,8 +413,9 @@ module _ (t : ℕ) where
 
   value-returns-2 : value-lts.Need-returns-2 (value-calls t) (value-at t) value.Post
   value-returns-2 c =
-      let a = c .before .before .before .before .before .before .before .args in
-      c .string .ensures ∙ sym (values.text (a .s .now) (a .at) (a .depth) (c .before .before .before .before .before .if1 .left) (sym (c .before .before .before .kind-of .ensures) ∙ c .before .enum-told .given .1))
+      let k = c .before .before .before in
+      let a = k .before .before .before .before .args in
+      c .string .ensures ∙ sym (values.text (a .s .now) (a .at) (a .depth) (k .before .before .if1 .left) (sym (k .kind-of .ensures) ∙ c .before .enum-told .given .1))
 
   value-enum-told-2 : value-lts.Need-enum-told-2 (value-calls t) (value-at t) value.Post
   value-enum-told-2 c = search needs
@@ -419,8 +425,9 @@ module _ (t : ℕ) where
 
   value-returns-3 : value-lts.Need-returns-3 (value-calls t) (value-at t) value.Post
   value-returns-3 c =
-      let a = c .before .before .before .before .before .before .before .args in
-      c .number .ensures ∙ sym (values.minus (a .s .now) (a .at) (a .depth) (c .before .before .before .before .before .if1 .left) (sym (c .before .before .before .kind-of .ensures) ∙ c .before .enum-told2 .given .1))
+      let k = c .before .before .before in
+      let a = k .before .before .before .before .args in
+      c .number .ensures ∙ sym (values.minus (a .s .now) (a .at) (a .depth) (k .before .before .if1 .left) (sym (k .kind-of .ensures) ∙ c .before .enum-told2 .given .1))
 
   value-enum-told-3 : value-lts.Need-enum-told-3 (value-calls t) (value-at t) value.Post
   value-enum-told-3 c = search needs
@@ -430,16 +437,18 @@ module _ (t : ℕ) where
 
   value-returns-4 : value-lts.Need-returns-4 (value-calls t) (value-at t) value.Post
   value-returns-4 c =
-      let a = c .before .before .before .before .before .before .before .args in
-      c .number2 .ensures ∙ sym (values.digit (a .s .now) (a .at) (a .depth) (c .before .before .before .before .before .if1 .left) (sym (c .before .before .before .kind-of .ensures) ∙ c .before .enum-told3 .given .1))
+      let k = c .before .before .before in
+      let a = k .before .before .before .before .args in
+      c .number2 .ensures ∙ sym (values.digit (a .s .now) (a .at) (a .depth) (k .before .before .if1 .left) (sym (k .kind-of .ensures) ∙ c .before .enum-told3 .given .1))
 
   value-enum-told-4 : value-lts.Need-enum-told-4 (value-calls t) (value-at t) value.Post
   value-enum-told-4 c = search needs
 
   value-returns-5 : value-lts.Need-returns-5 (value-calls t) (value-at t) value.Post
   value-returns-5 c =
-      let a = c .before .before .before .before .before .before .before .args in
-      sym (values.deep-array (a .s .now) (a .at) (a .depth) (c .before .before .before .before .before .if1 .left) (sym (c .before .before .before .kind-of .ensures) ∙ c .before .enum-told4 .given .1) (c .if2 .taken))
+      let k = c .before .before .before in
+      let a = k .before .before .before .before .args in
+      sym (values.deep-array (a .s .now) (a .at) (a .depth) (k .before .before .if1 .left) (sym (k .kind-of .ensures) ∙ c .before .enum-told4 .given .1) (c .if2 .taken))
 
   value-sub-array : value-lts.Need-sub-array (value-calls t) (value-at t) value.Post
   value-sub-array c = search needs
@@ -449,16 +458,18 @@ module _ (t : ℕ) where
 
   value-returns-6 : value-lts.Need-returns-6 (value-calls t) (value-at t) value.Post
   value-returns-6 c =
-      let a = c .before .before .before .before .before .before .before .before .args in
-      c .array .ensures ∙ sym (values.in-array (a .s .now) (a .at) (a .depth) (c .before .before .before .before .before .before .if1 .left) (c .before .if2 .left) (sym (c .before .before .before .before .kind-of .ensures) ∙ c .before .before .enum-told4 .given .1))
+      let k = c .before .before .before .before in
+      let a = k .before .before .before .before .args in
+      c .array .ensures ∙ sym (values.in-array (a .s .now) (a .at) (a .depth) (k .before .before .if1 .left) (c .before .if2 .left) (sym (k .kind-of .ensures) ∙ c .before .before .enum-told4 .given .1))
 
   value-enum-told-5 : value-lts.Need-enum-told-5 (value-calls t) (value-at t) value.Post
   value-enum-told-5 c = search needs
 
   value-returns-7 : value-lts.Need-returns-7 (value-calls t) (value-at t) value.Post
   value-returns-7 c =
-      let a = c .before .before .before .before .before .before .before .args in
-      sym (values.deep-object (a .s .now) (a .at) (a .depth) (c .before .before .before .before .before .if1 .left) (sym (c .before .before .before .kind-of .ensures) ∙ c .before .enum-told5 .given .1) (c .if3 .taken))
+      let k = c .before .before .before in
+      let a = k .before .before .before .before .args in
+      sym (values.deep-object (a .s .now) (a .at) (a .depth) (k .before .before .if1 .left) (sym (k .kind-of .ensures) ∙ c .before .enum-told5 .given .1) (c .if3 .taken))
 
   value-sub-object : value-lts.Need-sub-object (value-calls t) (value-at t) value.Post
   value-sub-object c = search needs
@@ -468,8 +479,9 @@ module _ (t : ℕ) where
 
   value-returns-8 : value-lts.Need-returns-8 (value-calls t) (value-at t) value.Post
   value-returns-8 c =
-      let a = c .before .before .before .before .before .before .before .before .args in
-      c .object .ensures ∙ sym (values.in-object (a .s .now) (a .at) (a .depth) (c .before .before .before .before .before .before .if1 .left) (c .before .if3 .left) (sym (c .before .before .before .before .kind-of .ensures) ∙ c .before .before .enum-told5 .given .1))
+      let k = c .before .before .before .before in
+      let a = k .before .before .before .before .args in
+      c .object .ensures ∙ sym (values.in-object (a .s .now) (a .at) (a .depth) (k .before .before .if1 .left) (c .before .if3 .left) (sym (k .kind-of .ensures) ∙ c .before .before .enum-told5 .given .1))
 
   value-enum-told-6 : value-lts.Need-enum-told-6 (value-calls t) (value-at t) value.Post
   value-enum-told-6 c = search needs
@@ -482,8 +494,9 @@ module _ (t : ℕ) where
 
   value-returns-9 : value-lts.Need-returns-9 (value-calls t) (value-at t) value.Post
   value-returns-9 c =
-      let a = c .before .before .before .before .before .before .before .before .args in
-      c .word .ensures ∙ sym (values.is-true (a .s .now) (a .at) (a .depth) (c .before .before .before .before .before .before .if1 .left) (sym (c .before .before .before .before .kind-of .ensures) ∙ c .before .before .enum-told6 .given .1))
+      let k = c .before .before .before .before in
+      let a = k .before .before .before .before .args in
+      c .word .ensures ∙ sym (values.is-true (a .s .now) (a .at) (a .depth) (k .before .before .if1 .left) (sym (k .kind-of .ensures) ∙ c .before .before .enum-told6 .given .1))
 
   value-enum-told-7 : value-lts.Need-enum-told-7 (value-calls t) (value-at t) value.Post
   value-enum-told-7 c = search needs
@@ -496,8 +509,9 @@ module _ (t : ℕ) where
 
   value-returns-10 : value-lts.Need-returns-10 (value-calls t) (value-at t) value.Post
   value-returns-10 c =
-      let a = c .before .before .before .before .before .before .before .before .args in
-      c .word2 .ensures ∙ sym (values.is-false (a .s .now) (a .at) (a .depth) (c .before .before .before .before .before .before .if1 .left) (sym (c .before .before .before .before .kind-of .ensures) ∙ c .before .before .enum-told7 .given .1))
+      let k = c .before .before .before .before in
+      let a = k .before .before .before .before .args in
+      c .word2 .ensures ∙ sym (values.is-false (a .s .now) (a .at) (a .depth) (k .before .before .if1 .left) (sym (k .kind-of .ensures) ∙ c .before .before .enum-told7 .given .1))
 
   value-enum-told-8 : value-lts.Need-enum-told-8 (value-calls t) (value-at t) value.Post
   value-enum-told-8 c = search needs
@@ -510,20 +524,112 @@ module _ (t : ℕ) where
 
   value-returns-11 : value-lts.Need-returns-11 (value-calls t) (value-at t) value.Post
   value-returns-11 c =
-      let a = c .before .before .before .before .before .before .before .before .args in
-      c .word3 .ensures ∙ sym (values.is-null (a .s .now) (a .at) (a .depth) (c .before .before .before .before .before .before .if1 .left) (sym (c .before .before .before .before .kind-of .ensures) ∙ c .before .before .enum-told8 .given .1))
+      let k = c .before .before .before .before in
+      let a = k .before .before .before .before .args in
+      c .word3 .ensures ∙ sym (values.is-null (a .s .now) (a .at) (a .depth) (k .before .before .if1 .left) (sym (k .kind-of .ensures) ∙ c .before .before .enum-told8 .given .1))
 
   value-enum-told-9 : value-lts.Need-enum-told-9 (value-calls t) (value-at t) value.Post
   value-enum-told-9 c = search needs
 
   value-returns-12 : value-lts.Need-returns-12 (value-calls t) (value-at t) value.Post
   value-returns-12 c =
-      let a = c .before .before .before .before .before .before .args in
-      sym (values.other (a .s .now) (a .at) (a .depth) (c .before .before .before .before .if1 .left) (sym (c .before .before .kind-of .ensures) ∙ c .enum-told9 .given .1))
+      let k = c .before .before in
+      let a = k .before .before .before .before .args in
+      sym (values.other (a .s .now) (a .at) (a .depth) (k .before .before .if1 .left) (sym (k .kind-of .ensures) ∙ c .enum-told9 .given .1))
 
 pub +array+object+pair+value-spec : {M : Type 1} → statement M
 +array+object+pair+value-spec = close μ-array μ-object μ-pair μ-value
-    (λ t. array-lts.spec (array-calls t) (array-at t) array.Post array-Inv-loop array-μ-loop (array-returns t) (array-shared-slice-read-if2 t) (array-add-t11 t) (array-returns-2 t) (array-loop-holds t) (array-value-requires t) (array-enum-told t) (array-returns-3 t) (array-enum-known-e t) (array-returns-4 t) (array-shared-slice-read-c t) (array-add-t19 t) (array-returns-5 t) (array-returns-6 t) (array-add-i t) (array-loop-less t) (array-loop-again t) (array-returns-7 t))
-    (λ t. object-lts.spec (object-calls t) (object-at t) object.Post object-Inv-loop object-μ-loop (object-returns t) (object-shared-slice-read-if2 t) (object-add-t12 t) (object-returns-2 t) (object-loop-holds t) (object-pair-requires t) (object-enum-told t) (object-returns-3 t) (object-enum-known-e t) (object-returns-4 t) (object-shared-slice-read-c t) (object-add-t20 t) (object-returns-5 t) (object-returns-6 t) (object-add-t16 t) (object-add-i t) (object-loop-less t) (object-loop-again t) (object-returns-7 t))
-    (λ t. pair-lts.spec (pair-calls t) (pair-at t) pair.Post (pair-returns t) (pair-shared-slice-read-if2 t) (pair-returns-2 t) (pair-add-k t) (pair-string-requires t) (pair-enum-told t) (pair-returns-3 t) (pair-enum-known-e t) (pair-in-order-requires t) (pair-returns-4 t) (pair-returns-5 t) (pair-shared-slice-read-if5 t) (pair-returns-6 t) (pair-add-value t) (pair-value-requires t) (pair-returns-7 t))
-    λ t. value-lts.spec (value-calls t) (value-at t) value.Post (value-returns t) (value-shared-slice-read-b t) (value-add-next t) (value-kind-of-requires t) (value-enum-told t) (value-string-requires t) (value-returns-2 t) (value-enum-told-2 t) (value-number-requires t) (value-returns-3 t) (value-enum-told-3 t) (value-number-requires-2 t) (value-returns-4 t) (value-enum-told-4 t) (value-returns-5 t) (value-sub-array t) (value-array-requires t) (value-returns-6 t) (value-enum-told-5 t) (value-returns-7 t) (value-sub-object t) (value-object-requires t) (value-returns-8 t) (value-enum-told-6 t) (value-slice-aggregate-word t) (value-word-requires t) (value-returns-9 t) (value-enum-told-7 t) (value-slice-aggregate-word-2 t) (value-word-requires-2 t) (value-returns-10 t) (value-enum-told-8 t) (value-slice-aggregate-word-3 t) (value-word-requires-3 t) (value-returns-11 t) (value-enum-told-9 t) (value-returns-12 t)
+    (λ t. array-lts.spec (array-calls t) (array-at t) array.Post array-Inv-loop array-μ-loop
+    (array-returns t)
+    (array-shared-slice-read-if2 t)
+    (array-add-t11 t)
+    (array-returns-2 t)
+    (array-loop-holds t)
+    (array-value-requires t)
+    (array-enum-told t)
+    (array-returns-3 t)
+    (array-enum-known-e t)
+    (array-returns-4 t)
+    (array-shared-slice-read-c t)
+    (array-add-t19 t)
+    (array-returns-5 t)
+    (array-returns-6 t)
+    (array-add-i t)
+    (array-loop-less t)
+    (array-loop-again t)
+    (array-returns-7 t))
+    (λ t. object-lts.spec (object-calls t) (object-at t) object.Post object-Inv-loop object-μ-loop
+    (object-returns t)
+    (object-shared-slice-read-if2 t)
+    (object-add-t12 t)
+    (object-returns-2 t)
+    (object-loop-holds t)
+    (object-pair-requires t)
+    (object-enum-told t)
+    (object-returns-3 t)
+    (object-enum-known-e t)
+    (object-returns-4 t)
+    (object-shared-slice-read-c t)
+    (object-add-t20 t)
+    (object-returns-5 t)
+    (object-returns-6 t)
+    (object-add-t16 t)
+    (object-add-i t)
+    (object-loop-less t)
+    (object-loop-again t)
+    (object-returns-7 t))
+    (λ t. pair-lts.spec (pair-calls t) (pair-at t) pair.Post
+    (pair-returns t)
+    (pair-shared-slice-read-if2 t)
+    (pair-returns-2 t)
+    (pair-add-k t)
+    (pair-string-requires t)
+    (pair-enum-told t)
+    (pair-returns-3 t)
+    (pair-enum-known-e t)
+    (pair-in-order-requires t)
+    (pair-returns-4 t)
+    (pair-returns-5 t)
+    (pair-shared-slice-read-if5 t)
+    (pair-returns-6 t)
+    (pair-add-value t)
+    (pair-value-requires t)
+    (pair-returns-7 t))
+    λ t. value-lts.spec (value-calls t) (value-at t) value.Post
+    (value-returns t)
+    (value-shared-slice-read-b t)
+    (value-add-next t)
+    (value-kind-of-requires t)
+    (value-enum-told t)
+    (value-string-requires t)
+    (value-returns-2 t)
+    (value-enum-told-2 t)
+    (value-number-requires t)
+    (value-returns-3 t)
+    (value-enum-told-3 t)
+    (value-number-requires-2 t)
+    (value-returns-4 t)
+    (value-enum-told-4 t)
+    (value-returns-5 t)
+    (value-sub-array t)
+    (value-array-requires t)
+    (value-returns-6 t)
+    (value-enum-told-5 t)
+    (value-returns-7 t)
+    (value-sub-object t)
+    (value-object-requires t)
+    (value-returns-8 t)
+    (value-enum-told-6 t)
+    (value-slice-aggregate-word t)
+    (value-word-requires t)
+    (value-returns-9 t)
+    (value-enum-told-7 t)
+    (value-slice-aggregate-word-2 t)
+    (value-word-requires-2 t)
+    (value-returns-10 t)
+    (value-enum-told-8 t)
+    (value-slice-aggregate-word-3 t)
+    (value-word-requires-3 t)
+    (value-returns-11 t)
+    (value-enum-told-9 t)
+    (value-returns-12 t)
