@@ -15,7 +15,7 @@ use Rattle.json.proofs.Cases.{choose-elim, led-elim}
 use Rattle.json.proofs.Chars.{chars-nil, chars-start, chars-more, esc-nil, esc-cons}
 use Rattle.json.proofs.Says.{Says, says-bad, says-got, says-also}
 use Rattle.base.specs.Bytes.{Bytes}
-use Rattle.base.proofs.TestLaws.{never, both}
+use Rattle.base.proofs.TestLaws.{never, both, neither as neither-of}
 
 -- ## Bytes that follow a lead byte are above 127
 
@@ -98,11 +98,7 @@ mutual
 -- ## What is written is read
 
 pub neither : (b : ℕ) → isEscaped b ≡ false → (eqb b 34 ≡ false) × (eqb b 92 ≡ false)
-neither b e = go (eqb b 34) (eqb b 92) e
-  where
-    go : (x y : Bool) → x || y ≡ false → (x ≡ false) × (y ≡ false)
-    go true y e = never e
-    go false y e = (refl, e)
+neither b e = neither-of (eqb b 34) (eqb b 92) e
 
 pub chars-complete : (bs : Bytes) (m lo hi : ℕ) (r : Bytes) → Ready m lo → wf bs m lo hi ≡ true → chars (putBytes bs (34 ∷ r)) m lo hi ≡ got bs r
 unfolding putBytes wf

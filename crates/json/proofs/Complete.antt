@@ -1,4 +1,4 @@
--- What is written is read: the reader finds each good value in its canonical text.
+-- What is written is read: the reader finds each valid value in its canonical text.
 use mathlib.Core.Path.{_≡_, refl, sym, _∙_}
 use mathlib.Core.List.{[], _∷_, _++_}
 use mathlib.Core.Option.{Option, none, some}
@@ -139,9 +139,3 @@ mutual
         member-read (read d) p n v (44 ∷ putStr m (58 ∷ put w (putMoreMembers ms (125 ∷ r)))) h k (hv (44 ∷ putStr m (58 ∷ put w (putMoreMembers ms (125 ∷ r)))) refl),
         complete-more-members ms d r m (g .3) (some n) (g .0) (g .1) w (λ R f. complete w d R (g .2) f),
       )
-
--- a number does not begin with a brace
-pub first-byte-num : (s : Bool) (ds r : Bytes) → validNum s ds ≡ true → (t : Bytes) → putNum s ds r ≡ 123 ∷ t → ⊥
-first-byte-num true ds r g t e = let z : _≡_ {A = ℕ} 45 123 = cc in omega arith
-first-byte-num false [] r g t e = never (sym g)
-first-byte-num false (b ∷ ds) r g t e = let z : b ≡ 123 = cc in let w = digit-range b (first-digit false b ds g) in omega arith

@@ -83,9 +83,6 @@ module _ (rd : Bytes → Got Json) (p : Option (Bytes)) where
             let g : rises p (name .value) ≡ true = rw is-raw at f in
             rw (at-cons s i h, q, name .is, g, at-cons s e o, k) (ends-also (length s) (λ (x : Json). (name .value, x)) (rd (drop (e + 1) s)))
 
-        pub name-after : i + 1 < e
-        name-after = name .after
-
 -- the member at i is passed, and its name is the one that the next must follow
 pub onward : (d : ℕ) (p : Option (Bytes)) (s : Bytes) (i e : ℕ) → endOf (length s) (member (read d) p (drop i s)) ≡ End e → e < length s → (getD s e 0 ≡ 125 → ⊥) → getD s e 0 ≡ 44
     → endOf (length s) (elementsOf (objects d) p (drop i s)) ≡ endOf (length s) (elementsOf (objects d) (some (raw (drop (i + 1) s))) (drop (e + 1) s))

@@ -93,10 +93,10 @@ fn plain_end(s: &[u8], at: usize) -> usize
         if b < 32 {
             return i;
         }
-        if b == 34 {
+        if b == b'"' {
             return i;
         }
-        if b == 92 {
+        if b == b'\\' {
             return i;
         }
         if 127 < b {
@@ -115,10 +115,10 @@ fn escape_end(s: &[u8], at: usize) -> Skip
         return Skip::No;
     }
     let c = s[at];
-    if c == 34 {
+    if c == b'"' {
         return Skip::End(at + 1);
     }
-    if c == 92 {
+    if c == b'\\' {
         return Skip::End(at + 1);
     }
     Skip::No
@@ -158,7 +158,7 @@ fn part_end(s: &[u8], i: usize) -> Skip
 {
     let b = s[i];
     let j = i + 1;
-    if b == 92 {
+    if b == b'\\' {
         return escape_end(s, j);
     }
     if b < 32 {
@@ -183,7 +183,7 @@ pub fn string(s: &[u8], at: usize) -> Skip
 {
     let mut i = at;
     while i < s.len() {
-        if s[i] == 34 {
+        if s[i] == b'"' {
             return Skip::End(i + 1);
         }
         match part_end(s, i) {
@@ -215,14 +215,14 @@ fn kind_of(b: u8) -> Kind
     ensures { λ r. ⌜ r ≡ kindOf b ⌝ }
 {
     match b {
-        34 => Kind::Text,
-        45 => Kind::Minus,
-        91 => Kind::Array,
-        102 => Kind::False,
-        110 => Kind::Null,
-        116 => Kind::True,
-        123 => Kind::Object,
-        48..=57 => Kind::Digit,
+        b'"' => Kind::Text,
+        b'-' => Kind::Minus,
+        b'[' => Kind::Array,
+        b'f' => Kind::False,
+        b'n' => Kind::Null,
+        b't' => Kind::True,
+        b'{' => Kind::Object,
+        b'0'..=b'9' => Kind::Digit,
         _ => Kind::Other,
     }
 }
@@ -235,25 +235,25 @@ fn number(s: &[u8], at: usize, neg: bool) -> Skip
         return Skip::No;
     }
     let b = s[at];
-    if b == 48 {
+    if b == b'0' {
         if neg {
             return Skip::No;
         }
         return Skip::End(at + 1);
     }
-    if b < 48 {
+    if b < b'0' {
         return Skip::No;
     }
-    if 57 < b {
+    if b'9' < b {
         return Skip::No;
     }
     let mut i = at + 1;
     while i < s.len() {
         let c = s[i];
-        if c < 48 {
+        if c < b'0' {
             return Skip::End(i);
         }
-        if 57 < c {
+        if b'9' < c {
             return Skip::End(i);
         }
         i += 1;
@@ -293,18 +293,18 @@ pub fn char_at(s: &[u8], i: usize) -> Char
     if s.len() <= i {
         return Char::Close;
     }
-    let b = s[i];
-    if b == 34 {
+    let first = s[i];
+    if first == b'"' {
         return Char::Close;
     }
     let j = i + 1;
-    if b == 92 {
+    if first == b'\\' {
         if s.len() <= j {
             return Char::Close;
         }
         return Char::Byte(s[j], j + 1);
     }
-    Char::Byte(b, j)
+    Char::Byte(first, j)
 }
 
 // The name at a is less than the name at b: byte by byte, a shorter prefix first.
@@ -407,7 +407,7 @@ pub fn array(s: &[u8], at: usize, depth: u8) -> Skip
     if s.len() <= at {
         return Skip::No;
     }
-    if s[at] == 93 {
+    if s[at] == b']' {
         return Skip::End(at + 1);
     }
     let mut i = at;
@@ -421,10 +421,10 @@ pub fn array(s: &[u8], at: usize, depth: u8) -> Skip
                     return Skip::No;
                 }
                 let c = s[e];
-                if c == 93 {
+                if c == b']' {
                     return Skip::End(e + 1);
                 }
-                if c != 44 {
+                if c != b',' {
                     return Skip::No;
                 }
                 i = e + 1;
@@ -441,7 +441,7 @@ fn pair(s: &[u8], i: usize, last: Last, depth: u8) -> Skip
     if s.len() <= i {
         return Skip::No;
     }
-    if s[i] != 34 {
+    if s[i] != b'"' {
         return Skip::No;
     }
     let k = i + 1;
@@ -456,7 +456,7 @@ fn pair(s: &[u8], i: usize, last: Last, depth: u8) -> Skip
             if s.len() <= e {
                 return Skip::No;
             }
-            if s[e] != 58 {
+            if s[e] != b':' {
                 return Skip::No;
             }
             return value(s, e + 1, depth);
@@ -471,7 +471,7 @@ pub fn object(s: &[u8], at: usize, depth: u8) -> Skip
     if s.len() <= at {
         return Skip::No;
     }
-    if s[at] == 125 {
+    if s[at] == b'}' {
         return Skip::End(at + 1);
     }
     let mut i = at;
@@ -486,10 +486,10 @@ pub fn object(s: &[u8], at: usize, depth: u8) -> Skip
                     return Skip::No;
                 }
                 let c = s[e];
-                if c == 125 {
+                if c == b'}' {
                     return Skip::End(e + 1);
                 }
-                if c != 44 {
+                if c != b',' {
                     return Skip::No;
                 }
                 last = Last::Name(i + 1);

@@ -11,8 +11,8 @@ returns c =
     let a = c .before .args in
     names.over (a .s .now) (a .i) (c .if1 .taken)
 
-shared-slice-read-b : tie.Need-shared-slice-read-b
-shared-slice-read-b c = search needs
+shared-slice-read-first : tie.Need-shared-slice-read-first
+shared-slice-read-first c = search needs
 
 returns-2 : tie.Need-returns-2
 returns-2 c =
@@ -50,7 +50,7 @@ char-at-spec =
     tie.close
     (tie.spec
     returns
-    shared-slice-read-b
+    shared-slice-read-first
     returns-2
     add-j
     returns-3
