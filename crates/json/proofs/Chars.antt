@@ -1,24 +1,24 @@
 -- One turn of the reading of a string, at a place of the text.
 use mathlib.Core.Path.{_≡_, refl, sym, _∙_}
 use mathlib.Core.List.{[], _∷_}
+use mathlib.Core.Bool.{true, _||_}
 use Prim.Native.Nat.{ℕ, zero, suc, _≤_, _<_, _+_, _-_}
 use native.Mathlib.Omega.{arith}
 use native.Mathlib.Numerals.{sub-one}
 use lib.ListN.{length, drop, getD}
 use lib.Dec.{eqb}
 use borrow.Author.Tests.{ne-eqb, le-leb, lt-leb}
+use Rattle.base.specs.Bytes.{Bytes}
+use Rattle.base.proofs.PlaceLaws.{at-cons, at-end}
 use Rattle.json.specs.Lead.{leadOf, within}
 use Rattle.json.specs.Read.{Got, bad, got, endOf, also, choose, led, chars, esc, readStr}
 use Rattle.json.specs.Strings.{Skips}
 use Rattle.json.specs.declared.Skip.{Skip}
 use Rattle.json.specs.declared.Skip.the-variants.{No, End}
 use Rattle.json.specs.declared.LeadByte.the-variants.{Bad, Seq}
-use Rattle.json.proofs.Place.{ends-at, ends-also}
-use mathlib.Core.Bool.{true, _||_}
 use Rattle.json.specs.Json.{isEscaped}
+use Rattle.json.proofs.Place.{ends-at, ends-also}
 use Rattle.json.proofs.Rows.{found}
-use Rattle.base.specs.Bytes.{Bytes}
-use Rattle.base.proofs.PlaceLaws.{at-cons, at-end}
 
 -- ## The clauses
 pub chars-nil : (m lo hi : ℕ) → chars [] m lo hi ≡ bad

@@ -7,6 +7,9 @@ use Prim.Native.Nat.{ℕ, zero, suc}
 use native.Mathlib.Omega.{arith}
 use lib.Dec.{eqb}
 use borrow.Author.Tests.{eq-eqb, ne-eqb, eqb-true, eqb-false}
+use Rattle.base.specs.Bytes.{Bytes, isDigit}
+use Rattle.base.proofs.TestLaws.{never, both}
+use Rattle.base.proofs.ByteLaws.{digit-range}
 use Rattle.json.specs.Json.{Json, jnull, jtrue, jfalse, num, str, arr, obj, Items, inil, icons, Members, mnil, mcons, put, putItems, putMoreItems, putMembers, putMoreMembers, putStr, putNum, Valid, ValidItems, ValidMembers, ValidMore, ValidStr, validNum, allDigits, isNil}
 use Rattle.json.specs.Read.{Got, got, elements, body, item, same, array, rises, member, named, mcons′, object, kindOf, read, NoDigit}
 use Rattle.json.proofs.KindLaws.{digit-kind}
@@ -16,9 +19,6 @@ use Rattle.json.proofs.NumberLaws.{number-complete}
 use Rattle.json.proofs.Rest.{read-fits, member-fits, elements-step}
 use Rattle.json.proofs.Values.{read-with}
 use Rattle.json.proofs.Puts.{put-null, put-true, put-false, put-num, put-str, put-arr, put-obj, items-nil, items-cons, more-items-nil, more-items-cons, members-nil, members-cons, more-members-nil, more-members-cons}
-use Rattle.base.specs.Bytes.{Bytes, isDigit}
-use Rattle.base.proofs.TestLaws.{never, both}
-use Rattle.base.proofs.ByteLaws.{digit-range}
 
 -- ## The first byte
 

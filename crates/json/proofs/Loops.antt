@@ -1,18 +1,18 @@
 -- The reading of elements between commas, at places of the text.
 use mathlib.Core.Path.{_≡_}
+use mathlib.Core.Option.{Option}
 use Prim.Native.Nat.{ℕ, _≤_, _<_, _+_}
 use native.Mathlib.Omega.{arith}
 use lib.ListN.{length, drop, getD}
-use borrow.Author.Tests.{eq-eqb, ne-eqb}
 use lib.Dec.{eqb}
-use mathlib.Core.Option.{Option}
+use borrow.Author.Tests.{eq-eqb, ne-eqb}
+use Rattle.base.specs.Bytes.{Bytes}
+use Rattle.base.proofs.PlaceLaws.{at-cons, at-end}
 use Rattle.json.specs.Json.{Json, Items, inil, icons, Members, mnil}
 use Rattle.json.specs.Read.{Got, bad, got, endOf, also, then, front, choose, loop, elements, body, item, same, Member, member, named, mcons′, read}
 use Rattle.json.specs.declared.Skip.the-variants.{No, End}
 use Rattle.json.proofs.Place.{ends-at, ends-also}
 use Rattle.json.proofs.Rest.{Fits, Located, located, refused, elements-step, read-fits, member-fits}
-use Rattle.base.specs.Bytes.{Bytes}
-use Rattle.base.proofs.PlaceLaws.{at-cons, at-end}
 
 -- what is read between commas, and up to which byte
 pub record Shape (P A B : Type 0) : Type 0 where

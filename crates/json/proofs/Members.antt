@@ -8,6 +8,8 @@ use lib.ListN.{length, drop, getD}
 use lib.Seq.{drop-drop}
 use lib.Dec.{eqb}
 use borrow.Author.Tests.{ne-eqb}
+use Rattle.base.specs.Bytes.{Bytes}
+use Rattle.base.proofs.PlaceLaws.{at-cons, at-end}
 use Rattle.json.specs.Json.{Json}
 use Rattle.json.specs.Read.{Got, bad, got, endOf, also, readStr, Member, member, rises, raw, read}
 use Rattle.json.specs.declared.Skip.the-variants.{No, End}
@@ -18,8 +20,6 @@ use Rattle.json.proofs.Loops as loops
 use Rattle.json.proofs.Loops.{objects, elementsOf}
 use Rattle.json.proofs.NameLaws.{chars-raw}
 use Rattle.json.proofs.Says.{Says, says-bad, says-got, says-of}
-use Rattle.base.specs.Bytes.{Bytes}
-use Rattle.base.proofs.PlaceLaws.{at-cons, at-end}
 
 module _ (rd : Bytes → Got Json) (p : Option (Bytes)) where
   -- the name of a member that was read is the one in the text

@@ -5,12 +5,12 @@ use mathlib.Core.Bool.{Bool, true, false, cond, not, _&&_}
 use Prim.Native.Nat.{ℕ}
 use lib.Dec.{eqb}
 use borrow.Author.Tests.{eq-eqb, eqb-true}
+use Rattle.base.specs.Bytes.{Bytes, isDigit}
+use Rattle.base.proofs.TestLaws.{never, both}
 use Rattle.json.specs.Json.{allDigits, isNil, validNum}
 use Rattle.json.specs.Read.{got, digits, number, word, NoDigit}
 use Rattle.json.proofs.Cases.{choose-elim}
 use Rattle.json.proofs.Says.{Says, says-bad, says-got, says-also, says-map}
-use Rattle.base.specs.Bytes.{Bytes, isDigit}
-use Rattle.base.proofs.TestLaws.{never, both}
 
 abbrev DigitsOf : Bytes → Bytes → Bytes → Type 0
 DigitsOf t ds r = (t ≡ ds ++ r) × (allDigits ds ≡ true)

@@ -8,6 +8,8 @@ use Prim.Native.Nat.{ℕ, zero, suc}
 use lib.ListN.{length}
 use lib.Dec.{eqb}
 use borrow.Author.Tests.{eqb-true}
+use Rattle.base.specs.Bytes.{Bytes, bytes, isDigit}
+use Rattle.base.proofs.TestLaws.{cond-elim}
 use Rattle.json.specs.Json.{Json, jnull, jtrue, jfalse, num, str, arr, obj, Items, inil, icons, Members, mnil, put, putItems, putMoreItems, putMembers, putMoreMembers, putStr, Valid, ValidItems, ValidMembers, ValidMore, ValidStr}
 use Rattle.json.specs.Read.{Got, bad, readStr, loop, body, item, same, array, Member, rises, member, named, mcons′, object, kindOf, readKind, readWith, read}
 use Rattle.json.specs.declared.Kind.{Kind}
@@ -18,8 +20,6 @@ use Rattle.json.proofs.Rfc.{to-rfc}
 use Rattle.json.proofs.CharsLaws.{chars-sound}
 use Rattle.json.proofs.NumberLaws.{number-sound, word-sound}
 use Rattle.json.proofs.Puts.{put-null, put-true, put-false, put-num, put-str, put-arr, put-obj, items-nil, items-cons, more-items-nil, more-items-cons, members-nil, members-cons, more-members-nil, more-members-cons}
-use Rattle.base.specs.Bytes.{Bytes, bytes, isDigit}
-use Rattle.base.proofs.TestLaws.{cond-elim}
 
 -- ## Elements between commas
 

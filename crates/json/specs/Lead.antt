@@ -4,9 +4,9 @@ use mathlib.Core.List.{List, [], _∷_}
 use mathlib.Core.Bool.{Bool, true, false, cond, _&&_}
 use Prim.Native.Nat.{ℕ, zero, suc}
 use lib.Dec.{leb}
+use Rattle.base.specs.Bytes.{Bytes}
 use Rattle.json.specs.declared.LeadByte.{LeadByte}
 use Rattle.json.specs.declared.LeadByte.the-variants.{Bad, Seq}
-use Rattle.base.specs.Bytes.{Bytes}
 
 -- lead bytes up to `upto` (and above the row before) begin a character as `start` says
 pub record Row : Type 0 where

@@ -1,5 +1,4 @@
 -- `json::char_at` meets its contract, by the byte at `i`.
-use borrow.Author.Needs.{needs}
 use native.Mathlib.Omega.{arith}
 use borrow.Author.Needs.{needs}
 use Rattle.json.proofs.NameLaws as names

@@ -1,7 +1,7 @@
 -- `json::escape_end` meets its contract, by the byte after the backslash.
-use borrow.Author.Needs.{needs}
 use mathlib.Core.Path.{refl}
 use native.Mathlib.Omega.{arith}
+use borrow.Author.Needs.{needs}
 use Rattle.json.proofs.Chars as strings
 use Rattle.json.proofs.escape_end.Statement.{statement}
 use Rattle.json.proofs.escape_end.Tie as tie

@@ -1,11 +1,11 @@
 -- `json::kind_of` meets its contract: each arm is a line of the definition.
 use mathlib.Core.Path.{sym, ap}
 use native.Mathlib.Omega.{arith}
+use Rattle.base.proofs.ByteLaws.{digit, digit-low, digit-high}
 use Rattle.json.specs.Read.{kindOf}
 use Rattle.json.proofs.KindLaws.{digit-kind, other-kind}
 use Rattle.json.proofs.kind_of.Statement.{statement}
 use Rattle.json.proofs.kind_of.Tie as tie
-use Rattle.base.proofs.ByteLaws.{digit, digit-low, digit-high}
 
 returns : tie.Need-returns
 unfolding kindOf

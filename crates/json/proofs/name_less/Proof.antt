@@ -2,15 +2,15 @@
 use mathlib.Core.Path.{_≡_, sym, _∙_}
 use Prim.Native.Nat.{_-_}
 use native.Mathlib.Omega.{arith}
-use borrow.Author.Needs.{needs}
 use lib.ListN.{length, drop}
+use borrow.Author.Needs.{needs}
+use Rattle.base.specs.Bytes.{less}
 use Rattle.json.specs.Read.{raw}
 use Rattle.json.specs.Names.{CharAt}
 use Rattle.json.specs.declared.Char.the-variants.{Close, Byte}
 use Rattle.json.proofs.NameLaws as names
 use Rattle.json.proofs.name_less.Statement.{statement}
 use Rattle.json.proofs.name_less.Tie as tie
-use Rattle.base.specs.Bytes.{less}
 
 abbrev Inv-loop : tie.InvT-loop
 Inv-loop s a b i₀ j₀ i j = less (raw (drop a s)) (raw (drop b s)) ≡ less (raw (drop i s)) (raw (drop j s))

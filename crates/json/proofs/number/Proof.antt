@@ -2,15 +2,13 @@
 use mathlib.Core.Path.{_≡_, sym, _∙_}
 use Prim.Native.Nat.{_≤_, _-_}
 use native.Mathlib.Omega.{arith}
+use lib.ListN.{length, drop, getD}
 use borrow.Author.Needs.{needs}
-use lib.ListN.{length, drop}
-use lib.ListN.{getD}
-use Rattle.json.specs.Read.{endOf, digits}
-use Rattle.json.specs.Read.{number as numberOf}
+use Rattle.base.proofs.ByteLaws.{digit, digit-low, digit-high}
+use Rattle.json.specs.Read.{endOf, digits, number as numberOf}
 use Rattle.json.proofs.Numbers as numbers
 use Rattle.json.proofs.number.Statement.{statement}
 use Rattle.json.proofs.number.Tie as tie
-use Rattle.base.proofs.ByteLaws.{digit, digit-low, digit-high}
 
 abbrev Inv-loop : tie.InvT-loop
 Inv-loop s at neg b i₀ i = (i ≤ length s) × (endOf (length s) (numberOf neg (drop at s)) ≡ endOf (length s) (digits (drop i s)))

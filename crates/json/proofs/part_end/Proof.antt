@@ -1,9 +1,9 @@
 -- `json::part_end` meets its contract: an escape, a plain byte and those after it, or a character beyond ASCII.
-use borrow.Author.Needs.{needs}
 use mathlib.Core.Path.{sym, _∙_}
 use Prim.Native.Nat.{_+_, _<_}
 use native.Mathlib.Omega.{arith}
 use lib.ListN.{drop, getD}
+use borrow.Author.Needs.{needs}
 use Rattle.json.specs.Read.{esc, chars, readStr}
 use Rattle.json.proofs.Chars as strings
 use Rattle.json.proofs.part_end.Statement.{statement}

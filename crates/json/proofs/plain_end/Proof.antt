@@ -2,8 +2,8 @@
 use mathlib.Core.Path.{_∙_}
 use Prim.Native.Nat.{_-_}
 use native.Mathlib.Omega.{arith}
-use borrow.Author.Needs.{needs}
 use lib.ListN.{length, drop}
+use borrow.Author.Needs.{needs}
 use Rattle.json.specs.Read.{readStr}
 use Rattle.json.specs.Strings.{Skips}
 use Rattle.json.specs.declared.Skip.the-variants.{End}

@@ -2,8 +2,8 @@
 use mathlib.Core.Path.{_≡_, _∙_}
 use Prim.Native.Nat.{_≤_}
 use native.Mathlib.Omega.{arith}
-use borrow.Author.Needs.{needs}
 use lib.ListN.{length, drop}
+use borrow.Author.Needs.{needs}
 use Rattle.json.specs.Read.{endOf, chars}
 use Rattle.json.proofs.Chars as strings
 use Rattle.json.proofs.tail_end.Statement.{statement}
