@@ -8,7 +8,6 @@ ghost use Rattle.base.specs.Bytes.{less};
 ghost use Rattle.json.specs.Lead.{leadOf};
 ghost use Rattle.json.specs.Read.{endOf, chars, esc, readStr, kindOf, word as wordOf, number as numberOf, array as arrayOf, object as objectOf, member as memberOf, rises, read, raw};
 ghost use Rattle.json.specs.Strings.{Skips};
-ghost use Rattle.json.specs.declared.Skip.the-variants.{End};
 ghost use Rattle.json.specs.Names.{CharAt, lastOf};
 ghost use Rattle.json.specs.Json.{Canonical, maxDepth};
 
@@ -83,30 +82,6 @@ pub enum Skip {
     End(usize),
 }
 
-// The first place from `at` on whose byte is not plain: below 32, a quote, a backslash, or above 127.
-fn plain_end(s: &[u8], at: usize) -> usize
-    ensures { λ r. ⌜ Skips (now (s .entry)) (readStr (drop at (now (s .entry)))) at (End r) ⌝ }
-{
-    let mut i = at;
-    while i < s.len() {
-        let b = s[i];
-        if b < 32 {
-            return i;
-        }
-        if b == b'"' {
-            return i;
-        }
-        if b == b'\\' {
-            return i;
-        }
-        if 127 < b {
-            return i;
-        }
-        i += 1;
-    }
-    i
-}
-
 // The escape whose backslash stands just before `at`.
 fn escape_end(s: &[u8], at: usize) -> Skip
     ensures { λ r. ⌜ Skips (now (s .entry)) (esc (drop at (now (s .entry)))) at r ⌝ }
@@ -151,8 +126,8 @@ fn tail_end(s: &[u8], at: usize, more: u8, lo: u8, hi: u8) -> Skip
     Skip::End(i)
 }
 
-// What stands at i, where no quote stands: an escape, a run of plain bytes, or a character beyond ASCII.
-fn part_end(s: &[u8], i: usize) -> Skip
+// The escape or the character at i, where no quote stands. ASCII comes first: it is most of what is read.
+fn char_end(s: &[u8], i: usize) -> Skip
     requires { ⌜ (i < length (now s)) × (getD (now s) i 0 ≡ 34 → ⊥) ⌝ }
     ensures { λ r. ⌜ Skips (now (s .entry)) (readStr (drop i (now (s .entry)))) (i + 1) r ⌝ }
 {
@@ -165,7 +140,7 @@ fn part_end(s: &[u8], i: usize) -> Skip
         return Skip::No;
     }
     if b < 128 {
-        return Skip::End(plain_end(s, j));
+        return Skip::End(j);
     }
     match lead(b) {
         LeadByte::Bad => {
@@ -186,7 +161,7 @@ pub fn string(s: &[u8], at: usize) -> Skip
         if s[i] == b'"' {
             return Skip::End(i + 1);
         }
-        match part_end(s, i) {
+        match char_end(s, i) {
             Skip::No => {
                 return Skip::No;
             }

@@ -32,8 +32,8 @@ returns c =
     let s = l .before .before .args .s .now in
     sym (l .loop .inv ∙ strings.quote s (l .loop .i) (c .before .before .loop-test .taken) (c .if1 .taken))
 
-part-end-requires : tie.Need-part-end-requires Inv-loop μ-loop
-part-end-requires c κs = ((c .before .before) .loop-test .taken, c .if1 .left)
+char-end-requires : tie.Need-char-end-requires Inv-loop μ-loop
+char-end-requires c κs = (c .before .before .loop-test .taken, c .if1 .left)
 
 enum-told : tie.Need-enum-told Inv-loop μ-loop
 enum-told c = search needs
@@ -42,7 +42,7 @@ returns-2 : tie.Need-returns-2 Inv-loop μ-loop
 returns-2 c =
     let l = c .before .before .before .before .before .before in
     let s = l .before .before .args .s .now in
-    let e : Skips s (readStr (drop (l .loop .i) s)) (l .loop .i + 1) No = rw (c .enum-told .given .1) at (c .before .before .part-end .ensures) in
+    let e : Skips s (readStr (drop (l .loop .i) s)) (l .loop .i + 1) No = rw (c .enum-told .given .1) at (c .before .before .char-end .ensures) in
     sym (l .loop .inv ∙ e)
 
 enum-known-e : tie.Need-enum-known-e Inv-loop μ-loop
@@ -52,14 +52,14 @@ loop-less : tie.Need-loop-less Inv-loop μ-loop
 loop-less c =
     let l = c .before .before .before .before .before .before .before in
     let s = l .before .before .args .s .now in
-    let e : Skips s (readStr (drop (l .loop .i) s)) (l .loop .i + 1) (End (c .before .e .given .0 .0)) = rw (c .before .e .given .1) at (c .before .before .before .part-end .ensures) in
+    let e : Skips s (readStr (drop (l .loop .i) s)) (l .loop .i + 1) (End (c .before .e .given .0 .0)) = rw (c .before .e .given .1) at (c .before .before .before .char-end .ensures) in
     omega (arith, e .1, c .before .before .before .before .before .before .loop-test .taken)
 
 loop-again : tie.Need-loop-again Inv-loop μ-loop
 loop-again c =
     let l = c .before .before .before .before .before .before .before in
     let s = l .before .before .args .s .now in
-    let e : Skips s (readStr (drop (l .loop .i) s)) (l .loop .i + 1) (End (c .before .e .given .0 .0)) = rw (c .before .e .given .1) at (c .before .before .before .part-end .ensures) in
+    let e : Skips s (readStr (drop (l .loop .i) s)) (l .loop .i + 1) (End (c .before .e .given .0 .0)) = rw (c .before .e .given .1) at (c .before .before .before .char-end .ensures) in
     l .loop .inv ∙ e .0
 
 returns-3 : tie.Need-returns-3 Inv-loop μ-loop
@@ -78,7 +78,7 @@ string-spec =
     shared-slice-read-if1
     add-t9
     returns
-    part-end-requires
+    char-end-requires
     enum-told
     returns-2
     enum-known-e

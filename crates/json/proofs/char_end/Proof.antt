@@ -1,4 +1,4 @@
--- `json::part_end` meets its contract: an escape, a plain byte and those after it, or a character beyond ASCII.
+-- `json::char_end` meets its contract, by the first byte.
 use mathlib.Core.Path.{sym, _∙_}
 use Prim.Native.Nat.{_+_, _<_}
 use native.Mathlib.Omega.{arith}
@@ -6,8 +6,8 @@ use lib.ListN.{drop, getD}
 use borrow.Author.Needs.{needs}
 use Rattle.json.specs.Read.{esc, chars, readStr}
 use Rattle.json.proofs.Chars as strings
-use Rattle.json.proofs.part_end.Statement.{statement}
-use Rattle.json.proofs.part_end.Tie as tie
+use Rattle.json.proofs.char_end.Statement.{statement}
+use Rattle.json.proofs.char_end.Tie as tie
 
 shared-slice-read-b : tie.Need-shared-slice-read-b
 shared-slice-read-b c = search needs
@@ -33,16 +33,13 @@ returns-2 c =
     let s = a .s .now in
     strings.control s (a .i) (b .pre .0) (b .pre .1) (c .before .if1 .left) (c .if2 .taken)
 
-plain-end-requires : tie.Need-plain-end-requires
-plain-end-requires c κs = search needs
-
 returns-3 : tie.Need-returns-3
 returns-3 c =
-    let b = c .before .before .before .before .before .before in
+    let b = c .before .before .before .before .before in
     let a = b .args in
     let s = a .s .now in
-    let h : getD s (a .i) 0 < 128 = c .before .if3 .taken in
-    (strings.plain s (a .i) (b .pre .0) (b .pre .1) (c .before .before .before .if1 .left) (c .before .before .if2 .left) (omega arith) ∙ c .plain-end .ensures .0, c .plain-end .ensures .1)
+    let h : getD s (a .i) 0 < 128 = c .if3 .taken in
+    (strings.plain s (a .i) (b .pre .0) (b .pre .1) (c .before .before .if1 .left) (c .before .if2 .left) (omega arith), omega arith)
 
 lead-requires : tie.Need-lead-requires
 lead-requires c κs = search needs
@@ -75,8 +72,8 @@ returns-5 c =
     strings.skips-from s (readStr (drop (a .i) s)) (chars (drop (a .i + 1) s) m lo hi) (a .i + 1) (c .tail-end .result)
     (strings.begun s (a .i) (b .pre .0) (b .pre .1) (c .before .before .before .before .before .before .before .if1 .left) m lo hi (sym (c .before .before .before .before .lead .ensures) ∙ w .1)) (c .tail-end .ensures)
 
-pub part-end-spec : {M : Type 1} → statement M
-part-end-spec =
+pub char-end-spec : {M : Type 1} → statement M
+char-end-spec =
     tie.close
     (tie.spec
     shared-slice-read-b
@@ -84,7 +81,6 @@ part-end-spec =
     escape-end-requires
     returns
     returns-2
-    plain-end-requires
     returns-3
     lead-requires
     enum-told
