@@ -173,6 +173,7 @@ pub fn string(s: &[u8], at: usize) -> Skip
     Skip::No
 }
 
+// The kinds of value, as the first byte tells them.
 pub enum Kind {
     Text,
     Minus,
@@ -262,6 +263,7 @@ pub enum Char {
     Byte(u8, usize),
 }
 
+// The byte of a name at i, or that the name ends there.
 pub fn char_at(s: &[u8], i: usize) -> Char
     ensures { λ r. ⌜ CharAt (now (s .entry)) i r ⌝ }
 {
