@@ -340,7 +340,8 @@ module _ (t : ℕ) where
   pair-returns-3 c =
       let q = c .before .before .before in
       let a = q .before .before .before .before .args in
-      sym (members.no-name (read (a .depth)) (lastOf (a .s .now) (a .last)) (a .s .now) (a .i) (q .before .before .if1 .left) (q .if2 .left) (sym (c .before .before .string .ensures) ∙ c .enum-told .given .1))
+      sym (members.no-name (read (a .depth)) (lastOf (a .s .now) (a .last)) (a .s .now) (a .i)
+      (q .before .before .if1 .left) (q .if2 .left) (sym (c .before .before .string .ensures) ∙ c .enum-told .given .1))
 
   pair-enum-known-e : pair-lts.Need-enum-known-e (pair-calls t) (pair-at t) pair.Post
   pair-enum-known-e c = search needs
@@ -354,7 +355,9 @@ module _ (t : ℕ) where
       let n = e .before .before in
       let q = n .before in
       let a = q .before .before .before .before .args in
-      sym (members.disorder (read (a .depth)) (lastOf (a .s .now) (a .last)) (a .s .now) (a .i) (q .before .before .if1 .left) (q .if2 .left) (e .e .given .0 .0) (sym (n .string .ensures) ∙ e .e .given .1) (sym (c .before .in-order .ensures) ∙ not-true _ (c .if3 .taken)))
+      sym (members.disorder (read (a .depth)) (lastOf (a .s .now) (a .last)) (a .s .now) (a .i)
+      (q .before .before .if1 .left) (q .if2 .left) (e .e .given .0 .0) (sym (n .string .ensures) ∙ e .e .given .1)
+      (sym (c .before .in-order .ensures) ∙ not-true _ (c .if3 .taken)))
 
   pair-returns-5 : pair-lts.Need-returns-5 (pair-calls t) (pair-at t) pair.Post
   pair-returns-5 c =
@@ -362,7 +365,9 @@ module _ (t : ℕ) where
       let n = e .before .before in
       let q = n .before in
       let a = q .before .before .before .before .args in
-      sym (members.cut (read (a .depth)) (lastOf (a .s .now) (a .last)) (a .s .now) (a .i) (q .before .before .if1 .left) (q .if2 .left) (e .e .given .0 .0) (sym (n .string .ensures) ∙ e .e .given .1) (c .if4 .taken) (sym (c .before .before .in-order .ensures) ∙ not-false _ (c .before .if3 .left)))
+      sym (members.cut (read (a .depth)) (lastOf (a .s .now) (a .last)) (a .s .now) (a .i)
+      (q .before .before .if1 .left) (q .if2 .left) (e .e .given .0 .0) (sym (n .string .ensures) ∙ e .e .given .1) (c .if4 .taken)
+      (sym (c .before .before .in-order .ensures) ∙ not-false _ (c .before .if3 .left)))
 
   pair-shared-slice-read-if5 : pair-lts.Need-shared-slice-read-if5 (pair-calls t) (pair-at t) pair.Post
   pair-shared-slice-read-if5 c = search needs
@@ -373,7 +378,9 @@ module _ (t : ℕ) where
       let n = e .before .before in
       let q = n .before in
       let a = q .before .before .before .before .args in
-      sym (members.no-colon (read (a .depth)) (lastOf (a .s .now) (a .last)) (a .s .now) (a .i) (q .before .before .if1 .left) (q .if2 .left) (e .e .given .0 .0) (sym (n .string .ensures) ∙ e .e .given .1) (c .before .before .if4 .left) (c .if5 .taken) (sym (c .before .before .before .before .in-order .ensures) ∙ not-false _ (c .before .before .before .if3 .left)))
+      sym (members.no-colon (read (a .depth)) (lastOf (a .s .now) (a .last)) (a .s .now) (a .i)
+      (q .before .before .if1 .left) (q .if2 .left) (e .e .given .0 .0) (sym (n .string .ensures) ∙ e .e .given .1) (c .before .before .if4 .left) (c .if5 .taken)
+      (sym (c .before .before .before .before .in-order .ensures) ∙ not-false _ (c .before .before .before .if3 .left)))
 
   pair-add-value : pair-lts.Need-add-value (pair-calls t) (pair-at t) pair.Post
   pair-add-value c = search needs
@@ -387,7 +394,9 @@ module _ (t : ℕ) where
       let n = e .before .before in
       let q = n .before in
       let a = q .before .before .before .before .args in
-      c .value .ensures ∙ sym (members.then-value (read (a .depth)) (lastOf (a .s .now) (a .last)) (a .s .now) (a .i) (q .before .before .if1 .left) (q .if2 .left) (e .e .given .0 .0) (sym (n .string .ensures) ∙ e .e .given .1) (c .before .before .before .if4 .left) (c .before .if5 .left) (sym (c .before .before .before .before .before .in-order .ensures) ∙ not-false _ (c .before .before .before .before .if3 .left)))
+      c .value .ensures ∙ sym (members.then-value (read (a .depth)) (lastOf (a .s .now) (a .last)) (a .s .now) (a .i)
+      (q .before .before .if1 .left) (q .if2 .left) (e .e .given .0 .0) (sym (n .string .ensures) ∙ e .e .given .1) (c .before .before .before .if4 .left) (c .before .if5 .left)
+      (sym (c .before .before .before .before .before .in-order .ensures) ∙ not-false _ (c .before .before .before .before .if3 .left)))
 
   -- ## `value`
 

@@ -45,9 +45,10 @@ enum-told-2 c = search needs
 
 returns-2 : tie.Need-returns-2 Inv-loop μ-loop
 returns-2 c =
-    let l = c .before .before .before .before .before .before .before in
+    let v = c .before .before .before .before in
+    let l = v .before .before .before in
     let s = l .before .before .args .s .now in
-    let y : CharAt s (l .loop .j) (Byte (c .before .before .before .before .y .given .0 .0) (c .before .before .before .before .y .given .0 .1 .0)) = rw (c .before .before .before .before .y .given .1) at (c .before .before .before .before .before .before .char-at .ensures) in
+    let y : CharAt s (l .loop .j) (Byte (v .y .given .0 .0) (v .y .given .0 .1 .0)) = rw (v .y .given .1) at (v .before .before .char-at .ensures) in
     let x : CharAt s (l .loop .i) Close = rw (c .enum-told2 .given .1) at (c .before .before .char-at2 .ensures) in
     sym (l .loop .inv ∙ names.less-short (raw (drop (l .loop .i) s)) (raw (drop (l .loop .j) s)) _ _ x (y .0))
 
@@ -56,25 +57,30 @@ enum-known-x c = search needs
 
 returns-3 : tie.Need-returns-3 Inv-loop μ-loop
 returns-3 c =
-    let l = c .before .before .before .before .before .before .before .before .before in
+    let u = c .before .before in
+    let v = u .before .before .before .before in
+    let l = v .before .before .before in
     let s = l .before .before .args .s .now in
-    let y : CharAt s (l .loop .j) (Byte (c .before .before .before .before .before .before .y .given .0 .0) (c .before .before .before .before .before .before .y .given .0 .1 .0)) = rw (c .before .before .before .before .before .before .y .given .1) at (c .before .before .before .before .before .before .before .before .char-at .ensures) in
-    let x : CharAt s (l .loop .i) (Byte (c .before .before .x .given .0 .0) (c .before .before .x .given .0 .1 .0)) = rw (c .before .before .x .given .1) at (c .before .before .before .before .char-at2 .ensures) in
+    let y : CharAt s (l .loop .j) (Byte (v .y .given .0 .0) (v .y .given .0 .1 .0)) = rw (v .y .given .1) at (v .before .before .char-at .ensures) in
+    let x : CharAt s (l .loop .i) (Byte (u .x .given .0 .0) (u .x .given .0 .1 .0)) = rw (u .x .given .1) at (u .before .before .char-at2 .ensures) in
     sym (l .loop .inv ∙ names.less-differ (raw (drop (l .loop .i) s)) (raw (drop (l .loop .j) s)) _ _ _ _ (x .0) (y .0) (c .if1 .taken))
 
 loop-less : tie.Need-loop-less Inv-loop μ-loop
 loop-less c =
-    let l = c .before .before .before .before .before .before .before .before .before in
+    let u = c .before .before in
+    let l = u .before .before .before .before .before .before .before in
     let s = l .before .before .args .s .now in
-    let x : CharAt s (l .loop .i) (Byte (c .before .before .x .given .0 .0) (c .before .before .x .given .0 .1 .0)) = rw (c .before .before .x .given .1) at (c .before .before .before .before .char-at2 .ensures) in
+    let x : CharAt s (l .loop .i) (Byte (u .x .given .0 .0) (u .x .given .0 .1 .0)) = rw (u .x .given .1) at (u .before .before .char-at2 .ensures) in
     omega (arith, x .1, x .2)
 
 loop-again : tie.Need-loop-again Inv-loop μ-loop
 loop-again c =
-    let l = c .before .before .before .before .before .before .before .before .before in
+    let u = c .before .before in
+    let v = u .before .before .before .before in
+    let l = v .before .before .before in
     let s = l .before .before .args .s .now in
-    let y : CharAt s (l .loop .j) (Byte (c .before .before .before .before .before .before .y .given .0 .0) (c .before .before .before .before .before .before .y .given .0 .1 .0)) = rw (c .before .before .before .before .before .before .y .given .1) at (c .before .before .before .before .before .before .before .before .char-at .ensures) in
-    let x : CharAt s (l .loop .i) (Byte (c .before .before .x .given .0 .0) (c .before .before .x .given .0 .1 .0)) = rw (c .before .before .x .given .1) at (c .before .before .before .before .char-at2 .ensures) in
+    let y : CharAt s (l .loop .j) (Byte (v .y .given .0 .0) (v .y .given .0 .1 .0)) = rw (v .y .given .1) at (v .before .before .char-at .ensures) in
+    let x : CharAt s (l .loop .i) (Byte (u .x .given .0 .0) (u .x .given .0 .1 .0)) = rw (u .x .given .1) at (u .before .before .char-at2 .ensures) in
     l .loop .inv ∙ names.less-same (raw (drop (l .loop .i) s)) (raw (drop (l .loop .j) s)) _ _ _ _ (x .0) (y .0) (c .if1 .left)
 
 pub name-less-spec : {M : Type 1} → statement M
