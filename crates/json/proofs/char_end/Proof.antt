@@ -31,7 +31,7 @@ returns-2 c =
     let b = c .before .before .before .before in
     let a = b .args in
     let s = a .s .now in
-    strings.control s (a .i) (b .pre .0) (b .pre .1) (c .before .if1 .left) (c .if2 .taken)
+    strings.control s (a .i) (b .pre .0) (b .pre .1) (c .before .if1 .left) (omega arith)
 
 returns-3 : tie.Need-returns-3
 returns-3 c =
