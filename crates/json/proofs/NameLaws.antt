@@ -7,6 +7,8 @@ use native.Mathlib.Omega.{arith}
 use lib.ListN.{length, drop, getD}
 use lib.Dec.{eqb, ltb}
 use borrow.Author.Tests.{eq-eqb, ne-eqb}
+use Rattle.base.specs.Bytes.{Bytes, less}
+use Rattle.base.proofs.PlaceLaws.{at-cons, at-end}
 use Rattle.json.specs.Json.{isEscaped}
 use Rattle.json.specs.Lead.{within, leadOf}
 use Rattle.json.specs.Read.{choose, raw, rawEsc, chars, esc}
@@ -14,8 +16,6 @@ use Rattle.json.proofs.Cases.{choose-elim, led-elim}
 use Rattle.json.proofs.Chars.{chars-nil, chars-start, chars-more, esc-nil, esc-cons}
 use Rattle.json.proofs.Says.{Says, says-bad, says-got, says-also}
 use Rattle.json.proofs.CharsLaws.{Ready, lead-ready, above, plain, neither}
-use Rattle.base.specs.Bytes.{Bytes, less}
-use Rattle.base.proofs.PlaceLaws.{at-cons, at-end}
 
 raw-nil : raw [] ≡ []
 unfolding raw

@@ -2,14 +2,14 @@
 use mathlib.Core.Path.{_≡_}
 use mathlib.Core.List.{[], _∷_}
 use mathlib.Core.Option.{Option, none, some}
-use Rattle.json.specs.declared.Last.{Last}
-use Rattle.json.specs.declared.Last.the-variants.{Nothing, Name}
 use Prim.Native.Nat.{ℕ, _<_, _≤_}
 use lib.ListN.{length, drop}
+use Rattle.base.specs.Bytes.{Bytes}
+use Rattle.json.specs.declared.Last.{Last}
+use Rattle.json.specs.declared.Last.the-variants.{Nothing, Name}
 use Rattle.json.specs.Read.{raw}
 use Rattle.json.specs.declared.Char.{Char}
 use Rattle.json.specs.declared.Char.the-variants.{Close, Byte}
-use Rattle.base.specs.Bytes.{Bytes}
 
 -- at i the name ends, or has the byte b, and goes on at j
 abbrev pub CharAt : Bytes → ℕ → Char → Type 0
