@@ -18,15 +18,15 @@ mutual
   deeper (obj ms) zero g = absurd g
   deeper (obj ms) (suc d) g = deeper-members ms d g
 
-  deeper-items : (xs : Items) (d : ℕ) → ValidItems xs d → ValidItems xs (suc d)
+  pub deeper-items : (xs : Items) (d : ℕ) → ValidItems xs d → ValidItems xs (suc d)
   deeper-items inil d g = tt
   deeper-items (icons v vs) d g = (deeper v d (g .0), deeper-items vs d (g .1))
 
-  deeper-members : (ms : Members) (d : ℕ) → ValidMembers ms d → ValidMembers ms (suc d)
+  pub deeper-members : (ms : Members) (d : ℕ) → ValidMembers ms d → ValidMembers ms (suc d)
   deeper-members mnil d g = tt
   deeper-members (mcons n v ms) d g = (g .0, deeper v d (g .1), deeper-more n ms d (g .2))
 
-  deeper-more : (p : Bytes) (ms : Members) (d : ℕ) → ValidMore p ms d → ValidMore p ms (suc d)
+  pub deeper-more : (p : Bytes) (ms : Members) (d : ℕ) → ValidMore p ms d → ValidMore p ms (suc d)
   deeper-more p mnil d g = tt
   deeper-more p (mcons n v ms) d g = (g .0, g .1, deeper v d (g .2), deeper-more n ms d (g .3))
 

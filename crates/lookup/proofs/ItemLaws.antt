@@ -19,7 +19,7 @@ use Rattle.lookup.specs.declared.Found.{Found}
 use Rattle.lookup.specs.declared.Found.the-variants as found
 use Rattle.lookup.specs.declared.Element.{Element}
 use Rattle.lookup.specs.declared.Element.the-variants.{NoArray, End, At}
-use Rattle.lookup.proofs.Deeper.{deeper}
+use Rattle.json.proofs.Deeper.{deeper}
 use Rattle.lookup.proofs.FirstByte.{beginsWith, begins, not-closing}
 use Rattle.lookup.proofs.StandsLaws.{there, front, rest-at, end-is}
 

@@ -1,4 +1,3 @@
-pub mod Deeper
 pub mod FirstByte
 pub mod StandsLaws
 pub mod ItemLaws

@@ -20,7 +20,7 @@ use Rattle.lookup.specs.declared.Element.{Element}
 use Rattle.lookup.specs.declared.Element.the-variants as element
 use Rattle.lookup.specs.declared.Member.{Member}
 use Rattle.lookup.specs.declared.Member.the-variants as member
-use Rattle.lookup.proofs.Deeper.{deeper}
+use Rattle.json.proofs.Deeper.{deeper}
 use Rattle.lookup.proofs.StandsLaws.{there, rest-at}
 use Rattle.lookup.proofs.ItemLaws.{closes-end, closes-on, opens-on, opens-no}
 use Rattle.lookup.proofs.StringLaws.{raw-bytes}
