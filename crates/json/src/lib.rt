@@ -8,7 +8,7 @@ ghost use Rattle.base.specs.Bytes.{less};
 ghost use Rattle.json.specs.Lead.{leadOf};
 ghost use Rattle.json.specs.Read.{endOf, chars, esc, readStr, kindOf, word as wordOf, number as numberOf, array as arrayOf, object as objectOf, member as memberOf, rises, read, raw};
 ghost use Rattle.json.specs.Strings.{Skips};
-ghost use Rattle.json.specs.Names.{CharAt, lastOf};
+ghost use Rattle.json.specs.Names.{CharRead, lastOf};
 ghost use Rattle.json.specs.Json.{Canonical, maxDepth};
 
 // How deep objects and arrays may hold one another.
@@ -265,7 +265,7 @@ pub enum Char {
 
 // The byte of a name at i, or that the name ends there.
 pub fn char_at(s: &[u8], i: usize) -> Char
-    ensures { λ r. ⌜ CharAt (now (s .entry)) i r ⌝ }
+    ensures { λ r. ⌜ CharRead (now (s .entry)) i r ⌝ }
 {
     if s.len() <= i {
         return Char::Close;

@@ -31,7 +31,7 @@ returns : tie.Need-returns Inv-loop μ-loop
 returns c =
     let l = c .before .before .before in
     let s = l .before .before .args .s .now in
-    let y : CharAt s (l .loop .j) Close = rw (c .enum-told .given .1) at (c .before .before .char-at .ensures) in
+    let y : CharAt s (l .loop .j) Close = rw (c .enum-told .given .1) at (c .before .before .char-at .ensures .means) in
     sym (l .loop .inv ∙ names.less-end (raw (drop (l .loop .i) s)) (raw (drop (l .loop .j) s)) y)
 
 enum-known-y : tie.Need-enum-known-y Inv-loop μ-loop
@@ -48,8 +48,8 @@ returns-2 c =
     let v = c .before .before .before .before in
     let l = v .before .before .before in
     let s = l .before .before .args .s .now in
-    let y : CharAt s (l .loop .j) (Byte (v .y .given .0 .0) (v .y .given .0 .1 .0)) = rw (v .y .given .1) at (v .before .before .char-at .ensures) in
-    let x : CharAt s (l .loop .i) Close = rw (c .enum-told2 .given .1) at (c .before .before .char-at2 .ensures) in
+    let y : CharAt s (l .loop .j) (Byte (v .y .given .0 .0) (v .y .given .0 .1 .0)) = rw (v .y .given .1) at (v .before .before .char-at .ensures .means) in
+    let x : CharAt s (l .loop .i) Close = rw (c .enum-told2 .given .1) at (c .before .before .char-at2 .ensures .means) in
     sym (l .loop .inv ∙ names.less-short (raw (drop (l .loop .i) s)) (raw (drop (l .loop .j) s)) _ _ x (y .0))
 
 enum-known-x : tie.Need-enum-known-x Inv-loop μ-loop
@@ -61,8 +61,8 @@ returns-3 c =
     let v = u .before .before .before .before in
     let l = v .before .before .before in
     let s = l .before .before .args .s .now in
-    let y : CharAt s (l .loop .j) (Byte (v .y .given .0 .0) (v .y .given .0 .1 .0)) = rw (v .y .given .1) at (v .before .before .char-at .ensures) in
-    let x : CharAt s (l .loop .i) (Byte (u .x .given .0 .0) (u .x .given .0 .1 .0)) = rw (u .x .given .1) at (u .before .before .char-at2 .ensures) in
+    let y : CharAt s (l .loop .j) (Byte (v .y .given .0 .0) (v .y .given .0 .1 .0)) = rw (v .y .given .1) at (v .before .before .char-at .ensures .means) in
+    let x : CharAt s (l .loop .i) (Byte (u .x .given .0 .0) (u .x .given .0 .1 .0)) = rw (u .x .given .1) at (u .before .before .char-at2 .ensures .means) in
     sym (l .loop .inv ∙ names.less-differ (raw (drop (l .loop .i) s)) (raw (drop (l .loop .j) s)) _ _ _ _ (x .0) (y .0) (c .if1 .taken))
 
 loop-less : tie.Need-loop-less Inv-loop μ-loop
@@ -70,7 +70,7 @@ loop-less c =
     let u = c .before .before in
     let l = u .before .before .before .before .before .before .before in
     let s = l .before .before .args .s .now in
-    let x : CharAt s (l .loop .i) (Byte (u .x .given .0 .0) (u .x .given .0 .1 .0)) = rw (u .x .given .1) at (u .before .before .char-at2 .ensures) in
+    let x : CharAt s (l .loop .i) (Byte (u .x .given .0 .0) (u .x .given .0 .1 .0)) = rw (u .x .given .1) at (u .before .before .char-at2 .ensures .means) in
     omega (arith, x .1, x .2)
 
 loop-again : tie.Need-loop-again Inv-loop μ-loop
@@ -79,8 +79,8 @@ loop-again c =
     let v = u .before .before .before .before in
     let l = v .before .before .before in
     let s = l .before .before .args .s .now in
-    let y : CharAt s (l .loop .j) (Byte (v .y .given .0 .0) (v .y .given .0 .1 .0)) = rw (v .y .given .1) at (v .before .before .char-at .ensures) in
-    let x : CharAt s (l .loop .i) (Byte (u .x .given .0 .0) (u .x .given .0 .1 .0)) = rw (u .x .given .1) at (u .before .before .char-at2 .ensures) in
+    let y : CharAt s (l .loop .j) (Byte (v .y .given .0 .0) (v .y .given .0 .1 .0)) = rw (v .y .given .1) at (v .before .before .char-at .ensures .means) in
+    let x : CharAt s (l .loop .i) (Byte (u .x .given .0 .0) (u .x .given .0 .1 .0)) = rw (u .x .given .1) at (u .before .before .char-at2 .ensures .means) in
     l .loop .inv ∙ names.less-same (raw (drop (l .loop .i) s)) (raw (drop (l .loop .j) s)) _ _ _ _ (x .0) (y .0) (c .if1 .left)
 
 pub name-less-spec : {M : Type 1} → statement M

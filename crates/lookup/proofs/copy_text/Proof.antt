@@ -45,7 +45,7 @@ returns-2 c =
     let a = c .before .before .before .before .before .before .before .before .args in
     let s = a .s .now in
     let l = c .before .before .before .loop in
-    let e = strings.char-close s (l .p) _ (c .before .before .char-at .ensures) (c .enum-told .given .1) in
+    let e = strings.char-close s (l .p) _ (c .before .before .char-at .ensures .means) (c .enum-told .given .1) in
     let len = c .before .before .before .before .before .text-len .ensures in
     strings.copy-done _ _ (omega (arith, c .before .before .before .before .if1 .left)) _ _ _ (l .inv .2) e
 
@@ -57,7 +57,7 @@ slice-write-out c =
     let a = c .before .before .before .before .before .before .before .before .before .args in
     let s = a .s .now in
     let l = c .before .before .before .before .loop in
-    let x = strings.char-byte s (l .p) _ (c .before .before .before .char-at .ensures) _ _ (c .before .b .given .1) in
+    let x = strings.char-byte s (l .p) _ (c .before .before .before .char-at .ensures .means) _ _ (c .before .b .given .1) in
     let z = ap length (x .0) in
     omega (arith, l .inv .0)
 
@@ -66,7 +66,7 @@ add-n c =
     let a = c .before .before .before .before .before .before .before .before .before .args in
     let s = a .s .now in
     let l = c .before .before .before .before .loop in
-    let x = strings.char-byte s (l .p) _ (c .before .before .before .char-at .ensures) _ _ (c .before .b .given .1) in
+    let x = strings.char-byte s (l .p) _ (c .before .before .before .char-at .ensures .means) _ _ (c .before .b .given .1) in
     let z = ap length (x .0) in
     omega (arith, l .inv .0)
 
@@ -75,7 +75,7 @@ loop-less c =
     let a = c .before .before .before .before .before .before .before .before .before .args in
     let s = a .s .now in
     let l = c .before .before .before .before .loop in
-    let x = strings.char-byte s (l .p) _ (c .before .before .before .char-at .ensures) _ _ (c .before .b .given .1) in
+    let x = strings.char-byte s (l .p) _ (c .before .before .before .char-at .ensures .means) _ _ (c .before .b .given .1) in
     let m = x .1 in
     let n = x .2 in
     omega arith
@@ -85,7 +85,7 @@ loop-again c =
     let a = c .before .before .before .before .before .before .before .before .before .args in
     let s = a .s .now in
     let l = c .before .before .before .before .loop in
-    let x = strings.char-byte s (l .p) _ (c .before .before .before .char-at .ensures) _ _ (c .before .b .given .1) in
+    let x = strings.char-byte s (l .p) _ (c .before .before .before .char-at .ensures .means) _ _ (c .before .b .given .1) in
     let z = ap length (x .0) in
     (simp length-set (omega (arith, l .inv .0)), simp length-set (l .inv .1), l .inv .2 ∙ strings.set-next (l .out) (l .n) _ _ _ (x .0))
 

@@ -30,7 +30,7 @@ returns c =
     let a = c .before .before .before .before .before .before .args in
     let s = a .s .now in
     let l = c .before .before .before .loop in
-    let e = strings.char-close s (l .p) _ (c .before .before .char-at .ensures) (c .enum-told .given .1) in
+    let e = strings.char-close s (l .p) _ (c .before .before .char-at .ensures .means) (c .enum-told .given .1) in
     strings.name-ended (raw (drop (l .p) s)) (a .k .now) (l .j) (l .inv .0) e ∙ sym (l .inv .1)
 
 enum-known-b : tie.Need-enum-known-b Inv-loop μ-loop
@@ -41,7 +41,7 @@ returns-2 c =
     let a = c .before .before .before .before .before .before .before .before .args in
     let s = a .s .now in
     let l = c .before .before .before .before .before .loop in
-    let x = strings.char-byte s (l .p) _ (c .before .before .before .before .char-at .ensures) _ _ (c .before .before .b .given .1) in
+    let x = strings.char-byte s (l .p) _ (c .before .before .before .before .char-at .ensures .means) _ _ (c .before .before .b .given .1) in
     sym (l .inv .1 ∙ strings.name-shorter (raw (drop (l .p) s)) (a .k .now) (l .j) _ _ (x .0) (c .if1 .taken))
 
 shared-slice-read-if2 : tie.Need-shared-slice-read-if2 Inv-loop μ-loop
@@ -52,7 +52,7 @@ returns-3 c =
     let a = c .before .before .before .before .before .before .before .before .before .before .args in
     let s = a .s .now in
     let l = c .before .before .before .before .before .before .before .loop in
-    let x = strings.char-byte s (l .p) _ (c .before .before .before .before .before .before .char-at .ensures) _ _ (c .before .before .before .before .b .given .1) in
+    let x = strings.char-byte s (l .p) _ (c .before .before .before .before .before .before .char-at .ensures .means) _ _ (c .before .before .before .before .b .given .1) in
     sym (l .inv .1 ∙ strings.name-differs (raw (drop (l .p) s)) (a .k .now) (l .j) _ _ (x .0) (c .before .before .if1 .left) (c .if2 .taken))
 
 add-j : tie.Need-add-j Inv-loop μ-loop
@@ -63,7 +63,7 @@ loop-less c =
     let a = c .before .before .before .before .before .before .before .before .before .before .args in
     let s = a .s .now in
     let l = c .before .before .before .before .before .before .before .loop in
-    let x = strings.char-byte s (l .p) _ (c .before .before .before .before .before .before .char-at .ensures) _ _ (c .before .before .before .before .b .given .1) in
+    let x = strings.char-byte s (l .p) _ (c .before .before .before .before .before .before .char-at .ensures .means) _ _ (c .before .before .before .before .b .given .1) in
     let m = x .1 in
     let n = x .2 in
     omega arith
@@ -73,7 +73,7 @@ loop-again c =
     let a = c .before .before .before .before .before .before .before .before .before .before .args in
     let s = a .s .now in
     let l = c .before .before .before .before .before .before .before .loop in
-    let x = strings.char-byte s (l .p) _ (c .before .before .before .before .before .before .char-at .ensures) _ _ (c .before .before .before .before .b .given .1) in
+    let x = strings.char-byte s (l .p) _ (c .before .before .before .before .before .before .char-at .ensures .means) _ _ (c .before .before .before .before .b .given .1) in
     (omega arith, l .inv .1 ∙ strings.name-next (raw (drop (l .p) s)) (a .k .now) (l .j) _ _ (x .0) (c .before .before .if1 .left) (c .if2 .left))
 
 pub text-is-spec : {M : Type 1} → statement M

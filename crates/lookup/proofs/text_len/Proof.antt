@@ -29,7 +29,7 @@ returns c =
     let a = c .before .before .before .before .before .args in
     let s = a .s .now in
     let l = c .before .before .before .loop in
-    let e = strings.char-close s (l .p) _ (c .before .before .char-at .ensures) (c .enum-told .given .1) in
+    let e = strings.char-close s (l .p) _ (c .before .before .char-at .ensures .means) (c .enum-told .given .1) in
     let z = ap length e in
     omega arith
 
@@ -41,7 +41,7 @@ add-n c =
     let a = c .before .before .before .before .before .before .args in
     let s = a .s .now in
     let l = c .before .before .before .before .loop in
-    let x = strings.char-byte s (l .p) _ (c .before .before .before .char-at .ensures) _ _ (c .before .next .given .1) in
+    let x = strings.char-byte s (l .p) _ (c .before .before .before .char-at .ensures .means) _ _ (c .before .next .given .1) in
     let m = x .1 in
     let n = x .2 in
     omega arith
@@ -51,7 +51,7 @@ loop-less c =
     let a = c .before .before .before .before .before .before .args in
     let s = a .s .now in
     let l = c .before .before .before .before .loop in
-    let x = strings.char-byte s (l .p) _ (c .before .before .before .char-at .ensures) _ _ (c .before .next .given .1) in
+    let x = strings.char-byte s (l .p) _ (c .before .before .before .char-at .ensures .means) _ _ (c .before .next .given .1) in
     let m = x .1 in
     let n = x .2 in
     omega arith
@@ -61,7 +61,7 @@ loop-again c =
     let a = c .before .before .before .before .before .before .args in
     let s = a .s .now in
     let l = c .before .before .before .before .loop in
-    let x = strings.char-byte s (l .p) _ (c .before .before .before .char-at .ensures) _ _ (c .before .next .given .1) in
+    let x = strings.char-byte s (l .p) _ (c .before .before .before .char-at .ensures .means) _ _ (c .before .next .given .1) in
     let m = x .1 in
     let z = ap length (x .0) in
     (omega arith, omega arith)
