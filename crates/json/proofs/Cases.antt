@@ -3,10 +3,10 @@ use mathlib.Core.Path.{_≡_, refl}
 use mathlib.Core.List.{[], _∷_}
 use mathlib.Core.Bool.{Bool, true, false}
 use Prim.Native.Nat.{ℕ}
+use Rattle.base.specs.Bytes.{Bytes}
 use Rattle.json.specs.Read.{Got, bad, got, then, choose, front, led}
 use Rattle.json.specs.declared.LeadByte.{LeadByte}
 use Rattle.json.specs.declared.LeadByte.the-variants.{Bad, Seq}
-use Rattle.base.specs.Bytes.{Bytes}
 
 pub choose-elim : {A : Type 0} (P : A → Type 0) (b : Bool) (f g : Unit {0} → A) → (b ≡ true → P (f tt)) → (b ≡ false → P (g tt)) → P (choose b f g)
 choose-elim P true f g x y = x refl

@@ -1,21 +1,24 @@
 -- One turn of the reading of a string, at a place of the text.
-use mathlib.Core.Path.{_≡_, refl}
+use mathlib.Core.Path.{_≡_, refl, sym, _∙_}
 use mathlib.Core.List.{[], _∷_}
-use mathlib.Core.Logic.{_⊎_, ⊎-elim}
+use mathlib.Core.Bool.{true, _||_}
 use Prim.Native.Nat.{ℕ, zero, suc, _≤_, _<_, _+_, _-_}
 use native.Mathlib.Omega.{arith}
 use native.Mathlib.Numerals.{sub-one}
 use lib.ListN.{length, drop, getD}
 use lib.Dec.{eqb}
 use borrow.Author.Tests.{ne-eqb, le-leb, lt-leb}
-use Rattle.json.specs.Lead.{leadOf, within}
-use Rattle.json.specs.Read.{Got, bad, got, endOf, also, choose, led, chars, esc}
-use Rattle.json.specs.declared.Skip.the-variants.{No, End}
-use Rattle.json.specs.declared.LeadByte.the-variants.{Bad, Seq}
-use Rattle.json.proofs.Place.{ends-at, ends-also}
-use mathlib.Core.Bool.{_||_}
 use Rattle.base.specs.Bytes.{Bytes}
 use Rattle.base.proofs.PlaceLaws.{at-cons, at-end}
+use Rattle.json.specs.Lead.{leadOf, within}
+use Rattle.json.specs.Read.{Got, bad, got, endOf, also, choose, led, chars, esc, readStr}
+use Rattle.json.specs.Strings.{Skips}
+use Rattle.json.specs.declared.Skip.{Skip}
+use Rattle.json.specs.declared.Skip.the-variants.{No, End}
+use Rattle.json.specs.declared.LeadByte.the-variants.{Bad, Seq}
+use Rattle.json.specs.Json.{isEscaped}
+use Rattle.json.proofs.Place.{ends-at, ends-also}
+use Rattle.json.proofs.Rows.{found}
 
 -- ## The clauses
 pub chars-nil : (m lo hi : ℕ) → chars [] m lo hi ≡ bad
@@ -38,50 +41,72 @@ pub esc-cons : (c : ℕ) (t : Bytes) → esc (c ∷ t) ≡ choose (eqb c 34 || e
 unfolding chars
 esc-cons c t = refl
 
+-- between characters no range waits
+pub chars-done : (t : Bytes) (lo hi : ℕ) → chars t 0 lo hi ≡ readStr t
+unfolding chars
+chars-done [] lo hi = refl
+chars-done (b ∷ t) lo hi = refl
+
 -- ## One turn
+
+-- no byte of a character is to come
+pub spent : (s : Bytes) (i m lo hi : ℕ) → m ≡ 0 → endOf (length s) (chars (drop i s) m lo hi) ≡ endOf (length s) (readStr (drop i s))
+spent s i m lo hi z = rw (z, chars-done)
 
 grown : (n b : ℕ) (g : Got (Bytes)) → endOf n (also (λ (t : Bytes). b ∷ t) g) ≡ endOf n g
 grown n b g = ends-also n (λ (t : Bytes). b ∷ t) g
 
-module _ (s : Bytes) (i m lo hi : ℕ) where
-  pub over : length s ≤ i → endOf (length s) (chars (drop i s) m lo hi) ≡ No
-  over h = rw (at-end s i h, chars-nil)
+pub over : (s : Bytes) (i m lo hi : ℕ) → length s ≤ i → endOf (length s) (chars (drop i s) m lo hi) ≡ No
+over s i m lo hi h = rw (at-end s i h, chars-nil)
 
-  pub quote : i < length s → m ≡ 0 → getD s i 0 ≡ 34 → endOf (length s) (chars (drop i s) m lo hi) ≡ End (i + 1)
-  quote h z e = rw (at-cons s i h, z, e, chars-start) (ends-at {A = Bytes} s (i + 1) [] (omega arith))
+module _ (s : Bytes) (i : ℕ) where
+  -- after a backslash
+  pub lone : length s ≤ i → endOf (length s) (esc (drop i s)) ≡ No
+  lone h = rw (at-end s i h, esc-nil)
 
-  pub lone : i < length s → m ≡ 0 → getD s i 0 ≡ 92 → length s ≤ i + 1 → endOf (length s) (chars (drop i s) m lo hi) ≡ No
-  lone h z e k = rw (at-cons s i h, z, e, chars-start, at-end s (i + 1) k, esc-nil)
+  module _ (h : i < length s) where
+    pub escaped : (c : ℕ) → getD s i 0 ≡ c → isEscaped c ≡ true → endOf (length s) (esc (drop i s)) ≡ endOf (length s) (readStr (drop (i + 1) s))
+    escaped c e f = rw (at-cons s i h, e, esc-cons, f) (grown (length s) c (readStr (drop (i + 1) s)))
 
-  pub escaped : i < length s → m ≡ 0 → getD s i 0 ≡ 92 → i + 1 < length s → (getD s (i + 1) 0 ≡ 34) ⊎ (getD s (i + 1) 0 ≡ 92)
-      → endOf (length s) (chars (drop i s) m lo hi) ≡ endOf (length s) (chars (drop (i + 1 + 1) s) m 0 0)
-  escaped h z e k w =
-      ⊎-elim
-      (λ (f : getD s (i + 1) 0 ≡ 34). rw (at-cons s i h, z, e, chars-start, at-cons s (i + 1) k, esc-cons, f) (grown (length s) 34 (chars (drop (i + 1 + 1) s) 0 0 0)))
-      (λ (f : getD s (i + 1) 0 ≡ 92). rw (at-cons s i h, z, e, chars-start, at-cons s (i + 1) k, esc-cons, f) (grown (length s) 92 (chars (drop (i + 1 + 1) s) 0 0 0)))
-      w
+    pub stray : (getD s i 0 ≡ 34 → ⊥) → (getD s i 0 ≡ 92 → ⊥) → endOf (length s) (esc (drop i s)) ≡ No
+    stray f g = rw (at-cons s i h, esc-cons, ne-eqb _ _ f, ne-eqb _ _ g)
 
-  pub stray : i < length s → m ≡ 0 → getD s i 0 ≡ 92 → i + 1 < length s → (getD s (i + 1) 0 ≡ 34 → ⊥) → (getD s (i + 1) 0 ≡ 92 → ⊥)
-      → endOf (length s) (chars (drop i s) m lo hi) ≡ No
-  stray h z e k f g = rw (at-cons s i h, z, e, chars-start, at-cons s (i + 1) k, esc-cons, ne-eqb _ _ f, ne-eqb _ _ g)
+    -- between characters
+    pub quote : getD s i 0 ≡ 34 → endOf (length s) (readStr (drop i s)) ≡ End (i + 1)
+    quote e = rw (at-cons s i h, e, chars-start) (ends-at {A = Bytes} s (i + 1) [] (omega arith))
 
-  pub no-lead : i < length s → m ≡ 0 → (getD s i 0 ≡ 34 → ⊥) → (getD s i 0 ≡ 92 → ⊥) → leadOf (getD s i 0) ≡ Bad
-      → endOf (length s) (chars (drop i s) m lo hi) ≡ No
-  no-lead h z f g e = rw (at-cons s i h, z, chars-start, ne-eqb _ _ f, ne-eqb _ _ g, e)
+    pub backslash : getD s i 0 ≡ 92 → endOf (length s) (readStr (drop i s)) ≡ endOf (length s) (esc (drop (i + 1) s))
+    backslash e = rw (at-cons s i h, e, chars-start)
 
-  pub begun : i < length s → m ≡ 0 → (getD s i 0 ≡ 34 → ⊥) → (getD s i 0 ≡ 92 → ⊥) → (n l k : ℕ) → leadOf (getD s i 0) ≡ Seq n l k
-      → endOf (length s) (chars (drop i s) m lo hi) ≡ endOf (length s) (chars (drop (i + 1) s) n l k)
-  begun h z f g n l k e = rw (at-cons s i h, z, chars-start, ne-eqb _ _ f, ne-eqb _ _ g, e) (grown (length s) (getD s i 0) (chars (drop (i + 1) s) n l k))
+    module _ (f : getD s i 0 ≡ 34 → ⊥) (g : getD s i 0 ≡ 92 → ⊥) where
+      pub no-lead : leadOf (getD s i 0) ≡ Bad → endOf (length s) (readStr (drop i s)) ≡ No
+      no-lead e = rw (at-cons s i h, chars-start, ne-eqb _ _ f, ne-eqb _ _ g, e)
 
-pub low : (s : Bytes) (i m lo hi : ℕ) → i < length s → (m ≡ 0 → ⊥) → getD s i 0 < lo → endOf (length s) (chars (drop i s) m lo hi) ≡ No
-low s i zero lo hi h z f = absurd (z refl)
-low s i (suc m) lo hi h z f = rw (at-cons s i h, chars-more, lt-leb lo (getD s i 0) f)
+      pub begun : (m lo hi : ℕ) → leadOf (getD s i 0) ≡ Seq m lo hi → endOf (length s) (readStr (drop i s)) ≡ endOf (length s) (chars (drop (i + 1) s) m lo hi)
+      begun m lo hi e = rw (at-cons s i h, chars-start, ne-eqb _ _ f, ne-eqb _ _ g, e) (grown (length s) (getD s i 0) (chars (drop (i + 1) s) m lo hi))
 
-pub high : (s : Bytes) (i m lo hi : ℕ) → i < length s → (m ≡ 0 → ⊥) → lo ≤ getD s i 0 → hi < getD s i 0 → endOf (length s) (chars (drop i s) m lo hi) ≡ No
-high s i zero lo hi h z f g = absurd (z refl)
-high s i (suc m) lo hi h z f g = rw (at-cons s i h, chars-more, le-leb lo (getD s i 0) f, lt-leb (getD s i 0) hi g)
+      pub control : getD s i 0 < 32 → endOf (length s) (readStr (drop i s)) ≡ No
+      control h = no-lead (sym (found 0 0 (getD s i 0) (omega arith) refl (omega arith)))
 
-pub onward : (s : Bytes) (i m lo hi : ℕ) → i < length s → (m ≡ 0 → ⊥) → lo ≤ getD s i 0 → getD s i 0 ≤ hi
-    → endOf (length s) (chars (drop i s) m lo hi) ≡ endOf (length s) (chars (drop (i + 1) s) (m - 1) 128 191)
-onward s i zero lo hi h z f g = absurd (z refl)
-onward s i (suc m) lo hi h z f g = rw (at-cons s i h, chars-more, le-leb lo (getD s i 0) f, le-leb (getD s i 0) hi g, sub-one) (grown (length s) (getD s i 0) (chars (drop (i + 1) s) m 128 191))
+      pub plain : 32 ≤ getD s i 0 → getD s i 0 ≤ 127 → endOf (length s) (readStr (drop i s)) ≡ endOf (length s) (readStr (drop (i + 1) s))
+      plain lo hi = begun 0 0 0 (sym (found 1 32 (getD s i 0) lo refl hi))
+
+-- inside a character, of which m bytes are to come
+module _ (s : Bytes) (i : ℕ) (h : i < length s) where
+  pub low : (m lo hi : ℕ) → 0 < m → getD s i 0 < lo → endOf (length s) (chars (drop i s) m lo hi) ≡ No
+  low zero lo hi z f = absurd (omega arith)
+  low (suc m) lo hi z f = rw (at-cons s i h, chars-more, lt-leb lo (getD s i 0) f)
+
+  pub high : (m lo hi : ℕ) → 0 < m → lo ≤ getD s i 0 → hi < getD s i 0 → endOf (length s) (chars (drop i s) m lo hi) ≡ No
+  high zero lo hi z f g = absurd (omega arith)
+  high (suc m) lo hi z f g = rw (at-cons s i h, chars-more, le-leb lo (getD s i 0) f, lt-leb (getD s i 0) hi g)
+
+  pub onward : (m lo hi : ℕ) → 0 < m → lo ≤ getD s i 0 → getD s i 0 ≤ hi → endOf (length s) (chars (drop i s) m lo hi) ≡ endOf (length s) (chars (drop (i + 1) s) (m - 1) 128 191)
+  onward zero lo hi z f g = absurd (omega arith)
+  onward (suc m) lo hi z f g = rw (at-cons s i h, chars-more, le-leb lo (getD s i 0) f, le-leb (getD s i 0) hi g, sub-one) (grown (length s) (getD s i 0) (chars (drop (i + 1) s) m 128 191))
+
+-- ## What one function passed on is passed on by another
+
+pub skips-from : (s : Bytes) (g h : Got (Bytes)) (k : ℕ) (r : Skip) → endOf (length s) g ≡ endOf (length s) h → Skips s h k r → Skips s g k r
+skips-from s g h k No e p = e ∙ p
+skips-from s g h k (End j) e p = (e ∙ p .0, p .1)

@@ -6,6 +6,8 @@ use Prim.Native.Nat.{ℕ, zero, suc, _≤_}
 use native.Mathlib.Omega.{arith}
 use lib.Dec.{eqb, leb}
 use borrow.Author.Tests.{ne-eqb, eqb-true, leb-true}
+use Rattle.base.specs.Bytes.{Bytes}
+use Rattle.base.proofs.TestLaws.{never, both, neither as neither-of}
 use Rattle.json.specs.Lead.{leadOf, look, table, Row, within, wf}
 use Rattle.json.specs.Json.{putBytes, isEscaped}
 use Rattle.json.specs.Read.{got, chars, esc}
@@ -14,8 +16,6 @@ use Rattle.json.specs.declared.LeadByte.the-variants.{Bad, Seq}
 use Rattle.json.proofs.Cases.{choose-elim, led-elim}
 use Rattle.json.proofs.Chars.{chars-nil, chars-start, chars-more, esc-nil, esc-cons}
 use Rattle.json.proofs.Says.{Says, says-bad, says-got, says-also}
-use Rattle.base.specs.Bytes.{Bytes}
-use Rattle.base.proofs.TestLaws.{never, both}
 
 -- ## Bytes that follow a lead byte are above 127
 
@@ -98,11 +98,7 @@ mutual
 -- ## What is written is read
 
 pub neither : (b : ℕ) → isEscaped b ≡ false → (eqb b 34 ≡ false) × (eqb b 92 ≡ false)
-neither b e = go (eqb b 34) (eqb b 92) e
-  where
-    go : (x y : Bool) → x || y ≡ false → (x ≡ false) × (y ≡ false)
-    go true y e = never e
-    go false y e = (refl, e)
+neither b e = neither-of (eqb b 34) (eqb b 92) e
 
 pub chars-complete : (bs : Bytes) (m lo hi : ℕ) (r : Bytes) → Ready m lo → wf bs m lo hi ≡ true → chars (putBytes bs (34 ∷ r)) m lo hi ≡ got bs r
 unfolding putBytes wf

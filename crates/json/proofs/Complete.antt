@@ -1,4 +1,4 @@
--- What is written is read: the reader finds each good value in its canonical text.
+-- What is written is read: the reader finds each valid value in its canonical text.
 use mathlib.Core.Path.{_≡_, refl, sym, _∙_}
 use mathlib.Core.List.{[], _∷_, _++_}
 use mathlib.Core.Option.{Option, none, some}
@@ -7,35 +7,20 @@ use Prim.Native.Nat.{ℕ, zero, suc}
 use native.Mathlib.Omega.{arith}
 use lib.Dec.{eqb}
 use borrow.Author.Tests.{eq-eqb, ne-eqb, eqb-true, eqb-false}
+use Rattle.base.specs.Bytes.{Bytes, isDigit}
+use Rattle.base.proofs.TestLaws.{never, both}
+use Rattle.base.proofs.ByteLaws.{digit-range}
 use Rattle.json.specs.Json.{Json, jnull, jtrue, jfalse, num, str, arr, obj, Items, inil, icons, Members, mnil, mcons, put, putItems, putMoreItems, putMembers, putMoreMembers, putStr, putNum, Valid, ValidItems, ValidMembers, ValidMore, ValidStr, validNum, allDigits, isNil}
 use Rattle.json.specs.Read.{Got, got, elements, body, item, same, array, rises, member, named, mcons′, object, kindOf, read, NoDigit}
-use Rattle.json.specs.declared.Kind.the-variants.{Digit}
+use Rattle.json.proofs.KindLaws.{digit-kind}
 use Rattle.json.proofs.Rfc.{of-rfc}
 use Rattle.json.proofs.CharsLaws.{chars-complete}
 use Rattle.json.proofs.NumberLaws.{number-complete}
 use Rattle.json.proofs.Rest.{read-fits, member-fits, elements-step}
 use Rattle.json.proofs.Values.{read-with}
 use Rattle.json.proofs.Puts.{put-null, put-true, put-false, put-num, put-str, put-arr, put-obj, items-nil, items-cons, more-items-nil, more-items-cons, members-nil, members-cons, more-members-nil, more-members-cons}
-use Rattle.base.specs.Bytes.{Bytes, isDigit}
-use Rattle.base.proofs.TestLaws.{never, both}
-use Rattle.base.proofs.ByteLaws.{digit-range}
 
 -- ## The first byte
-
-digit-kind : (b : ℕ) → isDigit b ≡ true → kindOf b ≡ Digit
-unfolding kindOf
-digit-kind b e =
-    let w = digit-range b e in
-    simp (
-      ne-eqb b 34 (λ (z : b ≡ 34). omega arith),
-      ne-eqb b 45 (λ (z : b ≡ 45). omega arith),
-      ne-eqb b 91 (λ (z : b ≡ 91). omega arith),
-      ne-eqb b 102 (λ (z : b ≡ 102). omega arith),
-      ne-eqb b 110 (λ (z : b ≡ 110). omega arith),
-      ne-eqb b 116 (λ (z : b ≡ 116). omega arith),
-      ne-eqb b 123 (λ (z : b ≡ 123). omega arith),
-      e,
-    )
 
 first-digit : (s : Bool) (b : ℕ) (t : Bytes) → validNum s (b ∷ t) ≡ true → isDigit b ≡ true
 first-digit s b t g = go (eqb b 48) refl g
@@ -154,9 +139,3 @@ mutual
         member-read (read d) p n v (44 ∷ putStr m (58 ∷ put w (putMoreMembers ms (125 ∷ r)))) h k (hv (44 ∷ putStr m (58 ∷ put w (putMoreMembers ms (125 ∷ r)))) refl),
         complete-more-members ms d r m (g .3) (some n) (g .0) (g .1) w (λ R f. complete w d R (g .2) f),
       )
-
--- a number does not begin with a brace
-pub first-byte-num : (s : Bool) (ds r : Bytes) → validNum s ds ≡ true → (t : Bytes) → putNum s ds r ≡ 123 ∷ t → ⊥
-first-byte-num true ds r g t e = let z : _≡_ {A = ℕ} 45 123 = cc in omega arith
-first-byte-num false [] r g t e = never (sym g)
-first-byte-num false (b ∷ ds) r g t e = let z : b ≡ 123 = cc in let w = digit-range b (first-digit false b ds g) in omega arith

@@ -1,4 +1,5 @@
 pub mod Rows
+pub mod KindLaws
 pub mod Place
 pub mod Chars
 pub mod Cases
@@ -15,6 +16,7 @@ pub mod NumberLaws
 pub mod Puts
 pub mod Sound
 pub mod Complete
+pub mod Deeper
 pub mod Canonical
 pub mod Examples
 pub mod Slices

@@ -1,23 +1,25 @@
 -- The reading of a member, at places of the text.
 use mathlib.Core.Path.{_≡_, refl, sym, ap, _∙_}
 use mathlib.Core.List.{[], _∷_}
-use mathlib.Core.Option.{Option}
+use mathlib.Core.Option.{Option, some}
 use mathlib.Core.Bool.{true, false}
 use Prim.Native.Nat.{ℕ, _≤_, _<_, _+_}
 use lib.ListN.{length, drop, getD}
 use lib.Seq.{drop-drop}
 use lib.Dec.{eqb}
 use borrow.Author.Tests.{ne-eqb}
+use Rattle.base.specs.Bytes.{Bytes}
+use Rattle.base.proofs.PlaceLaws.{at-cons, at-end}
 use Rattle.json.specs.Json.{Json}
-use Rattle.json.specs.Read.{Got, bad, got, endOf, also, readStr, Member, member, rises, raw}
+use Rattle.json.specs.Read.{Got, bad, got, endOf, also, readStr, Member, member, rises, raw, read}
 use Rattle.json.specs.declared.Skip.the-variants.{No, End}
 use Rattle.json.proofs.Place.{ends-also}
 use Rattle.json.proofs.Cases.{choose-elim, then-elim, front-elim}
 use Rattle.json.proofs.Rest.{Located, located, refused, chars-fits}
+use Rattle.json.proofs.Loops as loops
+use Rattle.json.proofs.Loops.{objects, elementsOf}
 use Rattle.json.proofs.NameLaws.{chars-raw}
 use Rattle.json.proofs.Says.{Says, says-bad, says-got, says-of}
-use Rattle.base.specs.Bytes.{Bytes}
-use Rattle.base.proofs.PlaceLaws.{at-cons, at-end}
 
 module _ (rd : Bytes → Got Json) (p : Option (Bytes)) where
   -- the name of a member that was read is the one in the text
@@ -81,5 +83,9 @@ module _ (rd : Bytes → Got Json) (p : Option (Bytes)) where
             let g : rises p (name .value) ≡ true = rw is-raw at f in
             rw (at-cons s i h, q, name .is, g, at-cons s e o, k) (ends-also (length s) (λ (x : Json). (name .value, x)) (rd (drop (e + 1) s)))
 
-        pub name-after : i + 1 < e
-        name-after = name .after
+-- the member at i is passed, and its name is the one that the next must follow
+pub onward : (d : ℕ) (p : Option (Bytes)) (s : Bytes) (i e : ℕ) → endOf (length s) (member (read d) p (drop i s)) ≡ End e → e < length s → (getD s e 0 ≡ 125 → ⊥) → getD s e 0 ≡ 44
+    → endOf (length s) (elementsOf (objects d) p (drop i s)) ≡ endOf (length s) (elementsOf (objects d) (some (raw (drop (i + 1) s))) (drop (e + 1) s))
+onward d p s i e h o f g =
+    let n = name-at (read d) p s i (loops.element (objects d) s p i e h) in
+    loops.onward (objects d) s p i e h o f g ∙ ap (λ (x : Bytes). endOf (length s) (elementsOf (objects d) (some x) (drop (e + 1) s))) (sym n)

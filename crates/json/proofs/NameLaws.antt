@@ -7,6 +7,8 @@ use native.Mathlib.Omega.{arith}
 use lib.ListN.{length, drop, getD}
 use lib.Dec.{eqb, ltb}
 use borrow.Author.Tests.{eq-eqb, ne-eqb}
+use Rattle.base.specs.Bytes.{Bytes, less}
+use Rattle.base.proofs.PlaceLaws.{at-cons, at-end}
 use Rattle.json.specs.Json.{isEscaped}
 use Rattle.json.specs.Lead.{within, leadOf}
 use Rattle.json.specs.Read.{choose, raw, rawEsc, chars, esc}
@@ -14,8 +16,8 @@ use Rattle.json.proofs.Cases.{choose-elim, led-elim}
 use Rattle.json.proofs.Chars.{chars-nil, chars-start, chars-more, esc-nil, esc-cons}
 use Rattle.json.proofs.Says.{Says, says-bad, says-got, says-also}
 use Rattle.json.proofs.CharsLaws.{Ready, lead-ready, above, plain, neither}
-use Rattle.base.specs.Bytes.{Bytes, less}
-use Rattle.base.proofs.PlaceLaws.{at-cons, at-end}
+use Rattle.json.specs.Names.{charOf, escapedAt}
+use Rattle.json.specs.declared.Char.the-variants.{Close, Byte}
 
 raw-nil : raw [] ≡ []
 unfolding raw
@@ -48,6 +50,28 @@ module _ (s : Bytes) (i : ℕ) where
 
   pub byte : i < length s → (getD s i 0 ≡ 34 → ⊥) → (getD s i 0 ≡ 92 → ⊥) → raw (drop i s) ≡ getD s i 0 ∷ raw (drop (i + 1) s)
   byte h e f = rw (at-cons s i h, raw-cons, ne-eqb _ _ e, ne-eqb _ _ f)
+
+  -- ## The same of the byte that `char_at` gives
+
+  pub char-over : length s ≤ i → Close ≡ charOf i (drop i s)
+  unfolding charOf
+  char-over h = rw (at-end s i h)
+
+  pub char-closed : i < length s → getD s i 0 ≡ 34 → Close ≡ charOf i (drop i s)
+  unfolding charOf
+  char-closed h e = rw (at-cons s i h, e)
+
+  pub char-lone : i < length s → getD s i 0 ≡ 92 → length s ≤ i + 1 → Close ≡ charOf i (drop i s)
+  unfolding charOf escapedAt
+  char-lone h e k = rw (at-cons s i h, e, at-end s (i + 1) k)
+
+  pub char-escaped : i < length s → getD s i 0 ≡ 92 → i + 1 < length s → Byte (getD s (i + 1) 0) (i + 1 + 1) ≡ charOf i (drop i s)
+  unfolding charOf escapedAt
+  char-escaped h e k = rw (at-cons s i h, e, at-cons s (i + 1) k)
+
+  pub char-byte : i < length s → (getD s i 0 ≡ 34 → ⊥) → (getD s i 0 ≡ 92 → ⊥) → Byte (getD s i 0) (i + 1) ≡ charOf i (drop i s)
+  unfolding charOf
+  char-byte h e f = rw (at-cons s i h, ne-eqb _ _ e, ne-eqb _ _ f)
 
 -- ## What a string's reader finds is the name
 

@@ -5,12 +5,12 @@ use mathlib.Core.Bool.{Bool, true, false, cond, not, _&&_}
 use Prim.Native.Nat.{ℕ}
 use lib.Dec.{eqb}
 use borrow.Author.Tests.{eq-eqb, eqb-true}
-use Rattle.json.specs.Json.{allDigits, isNil, validNum}
-use Rattle.json.specs.Read.{Got, got, digits, number, word, NoDigit}
-use Rattle.json.proofs.Cases.{choose-elim}
-use Rattle.json.proofs.Says.{Says, says-bad, says-got, says-also}
 use Rattle.base.specs.Bytes.{Bytes, isDigit}
 use Rattle.base.proofs.TestLaws.{never, both}
+use Rattle.json.specs.Json.{allDigits, isNil, validNum}
+use Rattle.json.specs.Read.{got, digits, number, word, NoDigit}
+use Rattle.json.proofs.Cases.{choose-elim}
+use Rattle.json.proofs.Says.{Says, says-bad, says-got, says-also, says-map}
 
 abbrev DigitsOf : Bytes → Bytes → Bytes → Type 0
 DigitsOf t ds r = (t ≡ ds ++ r) × (allDigits ds ≡ true)
@@ -67,12 +67,8 @@ word-sound [] t = says-got refl
 word-sound (c ∷ w) [] = says-bad
 word-sound (c ∷ w) (b ∷ t) =
     choose-elim (Says (λ (x : Unit {0}) (r : Bytes). b ∷ t ≡ c ∷ w ++ r)) (eqb b c) _ _
-    (λ (e : eqb b c ≡ true). says-map′ (word-sound w t) (eqb-true b c e))
+    (λ (e : eqb b c ≡ true). says-map (word-sound w t) (λ x r q. ap (λ (x : ℕ). x ∷ t) (eqb-true b c e) ∙ ap (λ (x : Bytes). c ∷ x) q))
     (λ _. says-bad)
-  where
-    says-map′ : {g : Got (Unit {0})} → Says (λ (x : Unit {0}) (r : Bytes). t ≡ w ++ r) g → b ≡ c → Says (λ (x : Unit {0}) (r : Bytes). b ∷ t ≡ c ∷ w ++ r) g
-    says-map′ says-bad e = says-bad
-    says-map′ (says-got q) e = says-got (ap (λ (x : ℕ). x ∷ t) e ∙ ap (λ (x : Bytes). c ∷ x) q)
 
 pub word-complete : (w r : Bytes) → word w (w ++ r) ≡ got tt r
 word-complete [] r = refl

@@ -6,11 +6,11 @@ use Prim.Native.Nat.{ℕ, _≤_, _<_, _+_}
 use native.Mathlib.Omega.{arith}
 use lib.ListN.{length, drop, getD, length-drop}
 use borrow.Author.Tests.{eq-eqb, ne-eqb}
+use Rattle.base.specs.Bytes.{Bytes, isDigit}
+use Rattle.base.proofs.PlaceLaws.{at-cons, at-end}
 use Rattle.json.specs.Read.{endOf, digits, number}
 use Rattle.json.specs.declared.Skip.the-variants.{No, End}
 use Rattle.json.proofs.Place.{ends-at, ends-also}
-use Rattle.base.specs.Bytes.{Bytes, isDigit}
-use Rattle.base.proofs.PlaceLaws.{at-cons, at-end}
 
 module _ (s : Bytes) (i : ℕ) where
   pub over : (neg : Bool) → length s ≤ i → endOf (length s) (number neg (drop i s)) ≡ No

@@ -3,9 +3,9 @@ use mathlib.Core.Path.{_≡_, refl, ap}
 use Prim.Native.Nat.{ℕ, _≤_}
 use native.Mathlib.Omega.{arith}
 use lib.ListN.{length, drop, length-drop}
+use Rattle.base.specs.Bytes.{Bytes}
 use Rattle.json.specs.Read.{Got, bad, got, endOf, also}
 use Rattle.json.specs.declared.Skip.the-variants.{End}
-use Rattle.base.specs.Bytes.{Bytes}
 
 -- a reading that stops at k ends at k
 pub ends-at : {A : Type 0} (s : Bytes) (k : ℕ) (a : A) → k ≤ length s → endOf (length s) (got a (drop k s)) ≡ End k

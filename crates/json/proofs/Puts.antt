@@ -2,8 +2,8 @@
 use mathlib.Core.Path.{_≡_, refl}
 use mathlib.Core.List.{_∷_, _++_}
 use mathlib.Core.Bool.{Bool}
-use Rattle.json.specs.Json.{Json, jnull, jtrue, jfalse, num, str, arr, obj, Items, inil, icons, Members, mnil, mcons, put, putItems, putMoreItems, putMembers, putMoreMembers, putStr, putNum}
 use Rattle.base.specs.Bytes.{Bytes, bytes}
+use Rattle.json.specs.Json.{Json, jnull, jtrue, jfalse, num, str, arr, obj, Items, inil, icons, Members, mnil, mcons, put, putItems, putMoreItems, putMembers, putMoreMembers, putStr, putNum}
 
 pub put-null : (r : Bytes) → put jnull r ≡ 110 ∷ (bytes "ull" ++ r)
 unfolding put

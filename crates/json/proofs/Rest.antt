@@ -8,6 +8,7 @@ use native.Mathlib.Omega.{arith}
 use lib.ListN.{length, drop, length-drop}
 use lib.Dec.{eqb}
 use lib.Seq.{drop-drop}
+use Rattle.base.specs.Bytes.{Bytes, bytes, isDigit}
 use Rattle.json.specs.declared.Skip.the-variants.{No, End}
 use Rattle.json.specs.Lead.{leadOf, within}
 use Rattle.json.specs.Json.{Json, Items, icons, inil, Members, mnil}
@@ -16,7 +17,6 @@ use Rattle.json.specs.declared.Kind.{Kind}
 use Rattle.json.specs.declared.Kind.the-variants.{Text, Minus, Digit, Array, Object, True, False, Null, Other}
 use Rattle.json.proofs.Cases.{choose-elim, then-elim, front-elim, led-elim, choose-cong, then-cong, front-cong}
 use Rattle.json.proofs.Chars.{chars-nil, chars-start, chars-more, esc-nil, esc-cons}
-use Rattle.base.specs.Bytes.{Bytes, bytes, isDigit}
 
 pub data Ends : Bytes → Bytes → Type 0 where
   one : {b : ℕ} {t : Bytes} → Ends (b ∷ t) t

@@ -7,13 +7,13 @@ use native.Mathlib.Omega.{arith}
 use lib.ListN.{length}
 use lib.Dec.{leb}
 use borrow.Author.Tests.{leb-true, leb-false, le-leb}
+use Rattle.base.specs.Bytes.{Bytes}
+use Rattle.base.proofs.TestLaws.{never, both, cond-elim}
 use Rattle.json.specs.Lead.{leadOf, within, wf, wellLed}
 use Rattle.json.specs.Rfc3629.{Lead3, e0, e1-ec, ed, ee-ef, Lead4, f0, f1-f3, f4, Utf8, nothing, one, two, three, four, From32}
 use Rattle.json.specs.declared.LeadByte.{LeadByte}
 use Rattle.json.specs.declared.LeadByte.the-variants.{Seq}
 use Rattle.json.proofs.Rows.{found}
-use Rattle.base.specs.Bytes.{Bytes}
-use Rattle.base.proofs.TestLaws.{never, both, cond-elim}
 
 in-it : (lo hi b : ℕ) → lo ≤ b → b ≤ hi → within lo hi b ≡ true
 in-it lo hi b h k = rw (le-leb lo b h, le-leb b hi k)

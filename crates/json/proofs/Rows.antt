@@ -6,9 +6,9 @@ use Prim.Native.Nat.{ℕ, zero, suc, _≤_, _<_}
 use native.Mathlib.Omega.{arith}
 use lib.Dec.{ltb}
 use borrow.Author.Tests.{lt-leb, le-leb, ltb-true}
+use Rattle.base.proofs.TestLaws.{both}
 use Rattle.json.specs.Lead.{Row, look, table, leadOf}
 use Rattle.json.specs.declared.LeadByte.the-variants.{Bad}
-use Rattle.base.proofs.TestLaws.{both}
 
 abbrev pub nth : ℕ → List Row → Row
 nth n [] = record { upto = 255; start = Bad }

@@ -1,6 +1,6 @@
 -- What holds of a reading, where it is one.
-use Rattle.json.specs.Read.{Got, bad, got, also}
 use Rattle.base.specs.Bytes.{Bytes}
+use Rattle.json.specs.Read.{Got, bad, got, also}
 
 pub data Says {A : Type 0} (Q : A → Bytes → Type 0) : Got A → Type 0 where
   says-bad : Says Q bad

@@ -2,9 +2,9 @@
 use mathlib.Core.Path.{_≡_, refl, sym, ap}
 use mathlib.Core.List.{[], _∷_, _++_, append-assoc}
 use mathlib.Core.Bool.{Bool, true, false, cond}
+use Rattle.base.specs.Bytes.{Bytes}
 use Rattle.json.specs.Json.{Json, jnull, jtrue, jfalse, num, str, arr, obj, Items, inil, icons, Members, mnil, mcons, put, putItems, putMoreItems, putMembers, putMoreMembers, putStr, putBytes, putNum, isEscaped}
 use Rattle.json.proofs.Puts.{put-null, put-true, put-false, put-num, put-str, put-arr, put-obj, items-nil, items-cons, more-items-nil, more-items-cons, members-nil, members-cons, more-members-nil, more-members-cons}
-use Rattle.base.specs.Bytes.{Bytes}
 
 bytes-append : (bs r q : Bytes) → putBytes bs (r ++ q) ≡ putBytes bs r ++ q
 unfolding putBytes

@@ -1,13 +1,15 @@
--- What is read was written: the text is the canonical text of the value that the reader finds, and the value is good.
+-- What is read was written: the text is the canonical text of the value that the reader finds, and the value is valid.
 use mathlib.Core.Path.{_≡_, refl, sym, ap, _∙_}
 use mathlib.Core.List.{[], _∷_}
 use mathlib.Core.Option.{Option, none, some}
-use mathlib.Core.Bool.{Bool, true, false, cond}
+use mathlib.Core.Bool.{true, false}
 use mathlib.Core.Logic.{_⊎_, inl, inr}
 use Prim.Native.Nat.{ℕ, zero, suc}
 use lib.ListN.{length}
 use lib.Dec.{eqb}
 use borrow.Author.Tests.{eqb-true}
+use Rattle.base.specs.Bytes.{Bytes, bytes, isDigit}
+use Rattle.base.proofs.TestLaws.{cond-elim}
 use Rattle.json.specs.Json.{Json, jnull, jtrue, jfalse, num, str, arr, obj, Items, inil, icons, Members, mnil, put, putItems, putMoreItems, putMembers, putMoreMembers, putStr, Valid, ValidItems, ValidMembers, ValidMore, ValidStr}
 use Rattle.json.specs.Read.{Got, bad, readStr, loop, body, item, same, array, Member, rises, member, named, mcons′, object, kindOf, readKind, readWith, read}
 use Rattle.json.specs.declared.Kind.{Kind}
@@ -18,7 +20,6 @@ use Rattle.json.proofs.Rfc.{to-rfc}
 use Rattle.json.proofs.CharsLaws.{chars-sound}
 use Rattle.json.proofs.NumberLaws.{number-sound, word-sound}
 use Rattle.json.proofs.Puts.{put-null, put-true, put-false, put-num, put-str, put-arr, put-obj, items-nil, items-cons, more-items-nil, more-items-cons, members-nil, members-cons, more-members-nil, more-members-cons}
-use Rattle.base.specs.Bytes.{Bytes, bytes, isDigit}
 
 -- ## Elements between commas
 
@@ -147,10 +148,6 @@ module _ (d : ℕ) (rd : Bytes → Got Json) (rd-sound : (t : Bytes) → Says (W
       go ms r (inr w) = rw (w .is, members-cons) (w .text, members-good-cons d none (w .head) (w .tail) (w .good) (w .more))
 
 -- ## Values
-
-cond-elim : {A : Type 0} (P : A → Type 0) (b : Bool) (x y : A) → (b ≡ true → P x) → (b ≡ false → P y) → P (cond b x y)
-cond-elim P true x y f g = f refl
-cond-elim P false x y f g = g refl
 
 -- the first byte is c, and t follows
 module _ (d : ℕ) (ra : Bytes → Got Items) (ro : Bytes → Got Members)

@@ -5,14 +5,14 @@ use mathlib.Core.Bool.{true, false}
 use Prim.Native.Nat.{ℕ, zero, suc, _≤_, _<_, _+_, _-_}
 use native.Mathlib.Numerals.{sub-one}
 use lib.ListN.{length, drop, getD}
+use Rattle.base.specs.Bytes.{Bytes, bytes}
+use Rattle.base.proofs.PlaceLaws.{at-cons, at-end}
 use Rattle.json.specs.Json.{Items, Members, str, num, arr, obj, jtrue, jfalse, jnull}
 use Rattle.json.specs.Read.{Got, bad, endOf, also, array, object, number, read, readWith, readKind, readStr, word, kindOf}
 use Rattle.json.specs.declared.Skip.the-variants.{No}
 use Rattle.json.specs.declared.Kind.{Kind}
 use Rattle.json.specs.declared.Kind.the-variants.{Text, Minus, Digit, Array, Object, True, False, Null, Other}
 use Rattle.json.proofs.Place.{ends-also}
-use Rattle.base.specs.Bytes.{Bytes, bytes}
-use Rattle.base.proofs.PlaceLaws.{at-cons, at-end}
 
 abbrev pub arrayAt : ℕ → Bytes → Got Items
 arrayAt zero t = bad

@@ -3,11 +3,11 @@ use mathlib.Core.Path.{_≡_}
 use Prim.Native.Nat.{ℕ, _≤_, _<_, _+_}
 use lib.ListN.{length, drop, getD}
 use borrow.Author.Tests.{eq-eqb, ne-eqb}
+use Rattle.base.specs.Bytes.{Bytes}
+use Rattle.base.proofs.PlaceLaws.{at-cons, at-end}
 use Rattle.json.specs.Read.{endOf, word}
 use Rattle.json.specs.declared.Skip.the-variants.{No, End}
 use Rattle.json.proofs.Place.{ends-at}
-use Rattle.base.specs.Bytes.{Bytes}
-use Rattle.base.proofs.PlaceLaws.{at-cons, at-end}
 
 module _ (s w : Bytes) (i k : ℕ) where
   pub over : k < length w → length s ≤ i → endOf (length s) (word (drop k w) (drop i s)) ≡ No

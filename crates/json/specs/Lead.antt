@@ -1,11 +1,12 @@
--- Well-formed UTF-8 (RFC 3629, section 4) with no byte below 32.
+-- UTF-8 as a reader sorts it: what a lead byte asks of the bytes after it, and no byte below 32.
+-- The meaning is specs/Rfc3629; proofs/Rfc shows that `wf` accepts the strings of its grammar (of-rfc) and no others (to-rfc).
 use mathlib.Core.List.{List, [], _∷_}
 use mathlib.Core.Bool.{Bool, true, false, cond, _&&_}
 use Prim.Native.Nat.{ℕ, zero, suc}
 use lib.Dec.{leb}
+use Rattle.base.specs.Bytes.{Bytes}
 use Rattle.json.specs.declared.LeadByte.{LeadByte}
 use Rattle.json.specs.declared.LeadByte.the-variants.{Bad, Seq}
-use Rattle.base.specs.Bytes.{Bytes}
 
 -- lead bytes up to `upto` (and above the row before) begin a character as `start` says
 pub record Row : Type 0 where

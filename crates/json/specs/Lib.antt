@@ -1,5 +1,6 @@
 pub mod Json
 pub mod Read
+pub mod Strings
 pub mod Names
 pub mod Rfc3629
 pub mod Lead

@@ -2,9 +2,11 @@
 use mathlib.Core.List.{[], _∷_}
 use mathlib.Core.Option.{Option, none, some}
 use mathlib.Core.Bool.{Bool, true, false, cond, _||_}
+use mathlib.Core.Path.{_≡_}
 use Prim.Native.Nat.{ℕ, zero, suc, _-_}
 use lib.Dec.{eqb}
 use lib.ListN.{length}
+use Rattle.base.specs.Bytes.{Bytes, bytes, less, isDigit}
 use Rattle.json.specs.Lead.{leadOf, within}
 use Rattle.json.specs.Json.{Json, jnull, jtrue, jfalse, num, str, arr, obj, Items, inil, icons, Members, mnil, mcons}
 use Rattle.json.specs.declared.LeadByte.{LeadByte}
@@ -13,8 +15,6 @@ use Rattle.json.specs.declared.Skip.{Skip}
 use Rattle.json.specs.declared.Skip.the-variants.{No, End}
 use Rattle.json.specs.declared.Kind.{Kind}
 use Rattle.json.specs.declared.Kind.the-variants.{Text, Minus, Digit, Array, Object, True, False, Null, Other}
-use Rattle.base.specs.Bytes.{Bytes, bytes, less, isDigit}
-use mathlib.Core.Path.{_≡_}
 
 pub data Got (A : Type 0) : Type 0 where
   bad : Got A

@@ -3,11 +3,12 @@ ghost use mathlib.Core.Path.{_≡_};
 ghost use mathlib.Core.Bool.{true};
 ghost use mathlib.Core.Logic.{_↔_};
 ghost use Prim.Native.Nat.{_+_, _≤_, _<_};
-ghost use lib.ListN.{length, drop};
+ghost use lib.ListN.{length, drop, getD};
 ghost use Rattle.base.specs.Bytes.{less};
 ghost use Rattle.json.specs.Lead.{leadOf};
-ghost use Rattle.json.specs.Read.{endOf, readStr, kindOf, word as wordOf, number as numberOf, array as arrayOf, object as objectOf, member as memberOf, rises, read, raw};
-ghost use Rattle.json.specs.Names.{CharAt, lastOf};
+ghost use Rattle.json.specs.Read.{endOf, chars, esc, readStr, kindOf, word as wordOf, number as numberOf, array as arrayOf, object as objectOf, member as memberOf, rises, read, raw};
+ghost use Rattle.json.specs.Strings.{Skips};
+ghost use Rattle.json.specs.Names.{CharRead, lastOf};
 ghost use Rattle.json.specs.Json.{Canonical, maxDepth};
 
 // How deep objects and arrays may hold one another.
@@ -81,67 +82,98 @@ pub enum Skip {
     End(usize),
 }
 
+// The escape whose backslash stands just before `at`.
+fn escape_end(s: &[u8], at: usize) -> Skip
+    ensures { λ r. ⌜ Skips (now (s .entry)) (esc (drop at (now (s .entry)))) at r ⌝ }
+{
+    if s.len() <= at {
+        return Skip::No;
+    }
+    let c = s[at];
+    if c == b'"' {
+        return Skip::End(at + 1);
+    }
+    if c == b'\\' {
+        return Skip::End(at + 1);
+    }
+    Skip::No
+}
+
+// The `more` bytes of a character from `at` on, the first of them from `lo` to `hi`.
+fn tail_end(s: &[u8], at: usize, more: u8, lo: u8, hi: u8) -> Skip
+    ensures { λ r. ⌜ Skips (now (s .entry)) (chars (drop at (now (s .entry))) more lo hi) at r ⌝ }
+{
+    let mut i = at;
+    let mut left = more;
+    let mut low = lo;
+    let mut high = hi;
+    while 0 < left {
+        if s.len() <= i {
+            return Skip::No;
+        }
+        let b = s[i];
+        if b < low {
+            return Skip::No;
+        }
+        if high < b {
+            return Skip::No;
+        }
+        left -= 1;
+        low = 128;
+        high = 191;
+        i += 1;
+    }
+    Skip::End(i)
+}
+
+// The escape or the character at i, where no quote stands. ASCII comes first: it is most of what is read.
+fn char_end(s: &[u8], i: usize) -> Skip
+    requires { ⌜ (i < length (now s)) × (getD (now s) i 0 ≡ 34 → ⊥) ⌝ }
+    ensures { λ r. ⌜ Skips (now (s .entry)) (readStr (drop i (now (s .entry)))) (i + 1) r ⌝ }
+{
+    let b = s[i];
+    let j = i + 1;
+    if b == b'\\' {
+        return escape_end(s, j);
+    }
+    if b < 32 {
+        return Skip::No;
+    }
+    if b < 128 {
+        return Skip::End(j);
+    }
+    match lead(b) {
+        LeadByte::Bad => {
+            return Skip::No;
+        }
+        LeadByte::Seq { more, lo, hi } => {
+            return tail_end(s, j, more, lo, hi);
+        }
+    }
+}
+
 // The string whose opening quote stands just before `at`.
 pub fn string(s: &[u8], at: usize) -> Skip
     ensures { λ r. ⌜ r ≡ endOf (length (now (s .entry))) (readStr (drop at (now (s .entry)))) ⌝ }
 {
     let mut i = at;
-    let mut more: u8 = 0;
-    let mut lo: u8 = 0;
-    let mut hi: u8 = 0;
     while i < s.len() {
-        let b = s[i];
-        if more == 0 {
-            if b == 34 {
-                return Skip::End(i + 1);
+        if s[i] == b'"' {
+            return Skip::End(i + 1);
+        }
+        match char_end(s, i) {
+            Skip::No => {
+                return Skip::No;
             }
-            if b == 92 {
-                let j = i + 1;
-                if s.len() <= j {
-                    return Skip::No;
-                }
-                let c = s[j];
-                if c != 34 {
-                    if c != 92 {
-                        return Skip::No;
-                    }
-                }
-                i = j + 1;
-                lo = 0;
-                hi = 0;
-                continue;
-            }
-            match lead(b) {
-                LeadByte::Bad => {
-                    return Skip::No;
-                }
-                LeadByte::Seq {
-                    more: m,
-                    lo: l,
-                    hi: h,
-                } => {
-                    more = m;
-                    lo = l;
-                    hi = h;
-                    i += 1;
-                    continue;
-                }
+            Skip::End(e) => {
+                i = e;
             }
         }
-        if b < lo {
-            return Skip::No;
-        }
-        if hi < b {
-            return Skip::No;
-        }
-        more -= 1;
-        lo = 128;
-        hi = 191;
-        i += 1;
     }
     Skip::No
 }
 
+// The kinds of value, as the first byte tells them.
 pub enum Kind {
     Text,
     Minus,
@@ -159,14 +191,14 @@ fn kind_of(b: u8) -> Kind
     ensures { λ r. ⌜ r ≡ kindOf b ⌝ }
 {
     match b {
-        34 => Kind::Text,
-        45 => Kind::Minus,
-        91 => Kind::Array,
-        102 => Kind::False,
-        110 => Kind::Null,
-        116 => Kind::True,
-        123 => Kind::Object,
-        48..=57 => Kind::Digit,
+        b'"' => Kind::Text,
+        b'-' => Kind::Minus,
+        b'[' => Kind::Array,
+        b'f' => Kind::False,
+        b'n' => Kind::Null,
+        b't' => Kind::True,
+        b'{' => Kind::Object,
+        b'0'..=b'9' => Kind::Digit,
         _ => Kind::Other,
     }
 }
@@ -179,25 +211,25 @@ fn number(s: &[u8], at: usize, neg: bool) -> Skip
         return Skip::No;
     }
     let b = s[at];
-    if b == 48 {
+    if b == b'0' {
         if neg {
             return Skip::No;
         }
         return Skip::End(at + 1);
     }
-    if b < 48 {
+    if b < b'0' {
         return Skip::No;
     }
-    if 57 < b {
+    if b'9' < b {
         return Skip::No;
     }
     let mut i = at + 1;
     while i < s.len() {
         let c = s[i];
-        if c < 48 {
+        if c < b'0' {
             return Skip::End(i);
         }
-        if 57 < c {
+        if b'9' < c {
             return Skip::End(i);
         }
         i += 1;
@@ -231,24 +263,25 @@ pub enum Char {
     Byte(u8, usize),
 }
 
+// The byte of a name at i, or that the name ends there.
 pub fn char_at(s: &[u8], i: usize) -> Char
-    ensures { λ r. ⌜ CharAt (now (s .entry)) i r ⌝ }
+    ensures { λ r. ⌜ CharRead (now (s .entry)) i r ⌝ }
 {
     if s.len() <= i {
         return Char::Close;
     }
-    let b = s[i];
-    if b == 34 {
+    let first = s[i];
+    if first == b'"' {
         return Char::Close;
     }
     let j = i + 1;
-    if b == 92 {
+    if first == b'\\' {
         if s.len() <= j {
             return Char::Close;
         }
         return Char::Byte(s[j], j + 1);
     }
-    Char::Byte(b, j)
+    Char::Byte(first, j)
 }
 
 // The name at a is less than the name at b: byte by byte, a shorter prefix first.
@@ -351,7 +384,7 @@ pub fn array(s: &[u8], at: usize, depth: u8) -> Skip
     if s.len() <= at {
         return Skip::No;
     }
-    if s[at] == 93 {
+    if s[at] == b']' {
         return Skip::End(at + 1);
     }
     let mut i = at;
@@ -365,10 +398,10 @@ pub fn array(s: &[u8], at: usize, depth: u8) -> Skip
                     return Skip::No;
                 }
                 let c = s[e];
-                if c == 93 {
+                if c == b']' {
                     return Skip::End(e + 1);
                 }
-                if c != 44 {
+                if c != b',' {
                     return Skip::No;
                 }
                 i = e + 1;
@@ -385,7 +418,7 @@ fn pair(s: &[u8], i: usize, last: Last, depth: u8) -> Skip
     if s.len() <= i {
         return Skip::No;
     }
-    if s[i] != 34 {
+    if s[i] != b'"' {
         return Skip::No;
     }
     let k = i + 1;
@@ -400,7 +433,7 @@ fn pair(s: &[u8], i: usize, last: Last, depth: u8) -> Skip
             if s.len() <= e {
                 return Skip::No;
             }
-            if s[e] != 58 {
+            if s[e] != b':' {
                 return Skip::No;
             }
             return value(s, e + 1, depth);
@@ -415,7 +448,7 @@ pub fn object(s: &[u8], at: usize, depth: u8) -> Skip
     if s.len() <= at {
         return Skip::No;
     }
-    if s[at] == 125 {
+    if s[at] == b'}' {
         return Skip::End(at + 1);
     }
     let mut i = at;
@@ -430,10 +463,10 @@ pub fn object(s: &[u8], at: usize, depth: u8) -> Skip
                     return Skip::No;
                 }
                 let c = s[e];
-                if c == 125 {
+                if c == b'}' {
                     return Skip::End(e + 1);
                 }
-                if c != 44 {
+                if c != b',' {
                     return Skip::No;
                 }
                 last = Last::Name(i + 1);

@@ -4,6 +4,7 @@ pub mod WordLaws
 pub mod ReadingLaws
 pub mod OrderLaws
 pub mod RootLaws
+pub mod SnapshotLaws
 pub mod NumberLaws
 pub mod Computing
 pub mod Cases

@@ -1,10 +1,14 @@
 -- Options: what is there, what a step of a form gave, and tests of a record that may not be held.
 use mathlib.Core.Path.{_≡_, refl, subst}
 use mathlib.Core.Logic.{_↔_}
-use mathlib.Core.Bool.{Bool, true, false}
+use mathlib.Core.Bool.{Bool, true, false, _&&_}
 use mathlib.Core.Option.{Option, none, some, bind}
-use Rattle.base.proofs.TestLaws.{never}
-use Rattle.json.specs.Fields.{keep}
+use Prim.Native.Nat.{ℕ, _≤_}
+use borrow.Author.Tests.{leb-true}
+use lib.Dec.{leb}
+use Rattle.base.proofs.TestLaws.{never, both}
+use Rattle.json.specs.Json.{Json}
+use Rattle.json.specs.Fields.{keep, between, number}
 use Rattle.rules.specs.Take.{_>>=_}
 use Rattle.rules.specs.Table.{ofHeld, absent}
 
@@ -27,6 +31,15 @@ pub kept-is : {A : Type 0} {b : A} (t : Bool) (a : A) → keep t a ≡ some b �
 unfolding keep
 kept-is true a e = (refl, some-is e)
 kept-is false a e = none-not-some e
+
+-- a number that was read is within its limits
+pub number-within : (lo hi : ℕ) (v : Json) (n : ℕ) → number lo hi v ≡ some n → (lo ≤ n) × (n ≤ hi)
+unfolding number between
+number-within lo hi v n e =
+    let m = had _ _ e in
+    let k = kept-is (leb lo (m .0) && leb (m .0) hi) (m .0) (m .2) in
+    let w = both (leb lo (m .0)) (leb (m .0) hi) (k .0) in
+    subst (λ (x : ℕ). (lo ≤ x) × (x ≤ hi)) (k .1) (leb-true lo (m .0) (w .0), leb-true (m .0) hi (w .1))
 
 -- ## Records that may be held
 

@@ -41,11 +41,14 @@ unfolding less
 less-trans a b [] p q = never (sym q)
 less-trans a [] (z ∷ c) p q = never (sym p)
 less-trans [] (y ∷ b) (z ∷ c) p q = refl
-less-trans (x ∷ a) (y ∷ b) (z ∷ c) p q =
-    ⊎-elim
-    (λ (h : x < y). ⊎-elim (λ (k : y < z). less-byte x z a c (omega arith)) (λ (k : (y ≡ z) × (less b c ≡ true)). less-byte x z a c (omega (arith, k .0))) (less-cases y z b c q))
-    (λ (h : (x ≡ y) × (less a b ≡ true)). ⊎-elim (λ (k : y < z). less-byte x z a c (omega (arith, h .0))) (λ (k : (y ≡ z) × (less b c ≡ true)). less-tail x z a c (h .0 ∙ k .0) (less-trans a b c (h .1) (k .1))) (less-cases y z b c q))
-    (less-cases x y a b p)
+less-trans (x ∷ a) (y ∷ b) (z ∷ c) p q = cases (less-cases x y a b p) (less-cases y z b c q) (less-trans a b c)
+  where
+    cases : (x < y) ⊎ ((x ≡ y) × (less a b ≡ true)) → (y < z) ⊎ ((y ≡ z) × (less b c ≡ true))
+        → (less a b ≡ true → less b c ≡ true → less a c ≡ true) → less (x ∷ a) (z ∷ c) ≡ true
+    cases (inl h) (inl k) more = less-byte x z a c (omega arith)
+    cases (inl h) (inr k) more = less-byte x z a c (omega (arith, k .0))
+    cases (inr h) (inl k) more = less-byte x z a c (omega (arith, h .0))
+    cases (inr h) (inr k) more = less-tail x z a c (h .0 ∙ k .0) (more (h .1) (k .1))
 
 -- ## Hex
 

@@ -24,8 +24,10 @@ use Rattle.rules.specs.Limits.{maxFile}
 use Rattle.base.proofs.TestLaws.{never}
 use Rattle.rules.specs.Records.{File, Fault, Read, refused, says, tooLong, otherSpec}
 use Rattle.rules.specs.Forms.{Envelope, envelope, entries, placeFrom, placeOf, knownSpec, fileOf}
-use Rattle.rules.specs.Table.{absent}
+use Rattle.rules.specs.State.{kept}
+use Rattle.rules.specs.Table.{Refusal, absent}
 use Rattle.rules.specs.Reading.{whole, parsed, judgedText, readWith, keyidsOf, opened, readEnvelope, known, spoken, inEnvelope, readAs}
+use Rattle.rules.specs.Steps.{faultNumber, judged}
 use Rattle.rules.proofs.OptionLaws.{none-not-some, some-is, had, not-absent}
 
 -- ## Text
@@ -60,11 +62,11 @@ canonical-exactly file = (there, λ c. not-absent (parsed file) .1 (c .0, parsed
 -- ## "32,768 bytes may pass, 32,769 is 1"
 
 module _ {A : Type 0} (f : Json → Read A) (file : Bytes) where
-  pub too-long : maxFile < length file → readWith f file ≡ refused tooLong
-  unfolding readWith
-  too-long h = rw (lt-leb (length file) maxFile h)
+  pub too-long : 32768 < length file → (table : A → List Bytes → List Refusal) → judged (readWith f file) table ≡ 1
+  unfolding readWith judged faultNumber
+  too-long h table = rw (lt-leb (length file) maxFile h)
 
-  pub not-too-long : length file ≤ maxFile → readWith f file ≡ judgedText f (parsed file)
+  pub not-too-long : length file ≤ 32768 → readWith f file ≡ judgedText f (parsed file)
   unfolding readWith
   not-too-long h = rw (le-leb (length file) maxFile h)
 
@@ -140,6 +142,23 @@ role-file {A} type body file f es h =
         → RoleFile type body file f es
     opens v p none q h = refused-not-says h
     opens v p (some e) q h = speaks v e p q (fileOf type body (e .signed)) refl h
+
+-- the body of a role's file
+pub body-is : {A : Type 0} (type : Bytes) (body : Json → Option A) (v : Json) (f : File A) → fileOf type body v ≡ some f → body v ≡ some (f .body)
+unfolding fileOf
+body-is type body v f e =
+    let t = had _ _ e in
+    let spec = had _ _ (t .2) in
+    let version = had _ _ (spec .2) in
+    let expires = had _ _ (version .2) in
+    let b = had _ _ (expires .2) in
+    b .1 ∙ ap some (ap (λ (x : File _). x .body) (some-is (b .2)))
+
+-- a reading of what is kept is one of what the file says
+pub kept-says : {A B : Type 0} (f : A → B) (g : Read A) (b : B) (es : List Bytes) → kept f g ≡ says b es → (a : A) × (g ≡ says a es) × (f a ≡ b)
+unfolding kept
+kept-says f (refused x) b es e = never (cc)
+kept-says f (says a ks) b es e = let ks-is : ks ≡ es = cc in (a, ap (says a) ks-is, cc)
 
 -- ## The signed part
 

@@ -2,31 +2,30 @@
 -- threshold from 1 to their number.
 use mathlib.Core.Path.{_≡_, sym, ap, _∙_, subst}
 use mathlib.Core.Logic.{⊎-elim}
-use mathlib.Core.Option.{Option, some}
+use mathlib.Core.Option.{some}
 use mathlib.Core.Bool.{Bool, true, false, cond, _&&_}
 use mathlib.Core.List.{List, _∷_, map, List·Memᴰ, List·Memᴰ·cases-cons}
 use Prim.Native.Nat.{ℕ, zero, suc, _≤_}
 use native.Mathlib.Nat.{le-trans}
-use borrow.Author.Tests.{leb-true}
 use lib.Dec.{leb}
 use lib.ListN.{length}
 use Rattle.base.specs.Bytes.{Bytes, bytes, same, less}
 use Rattle.base.specs.Hex.{isHex, undo}
 use Rattle.base.proofs.TestLaws.{never, both}
 use Rattle.json.specs.Json.{Json, jnull, jtrue, jfalse, num, str, arr, obj, Members, mnil, mcons, Valid, ValidMembers, ValidMore, maxDepth}
-use Rattle.json.specs.Fields.{members, lookup, field, between, number, count}
+use Rattle.json.specs.Fields.{members, lookup, field, count}
 use Rattle.rules.specs.Limits.{keySize, maxKeys}
 use Rattle.rules.specs.Take.{must, unhex, eachNamed}
 use Rattle.rules.specs.Records as records
-use Rattle.rules.specs.Records.{Key, Role, File, Read, refused, says}
-use Rattle.rules.specs.Forms.{Envelope, envelope, isIn, different, allOf, fileOf, key, keys, role, root}
+use Rattle.rules.specs.Records.{Key, Role, File, says}
+use Rattle.rules.specs.Forms.{Envelope, envelope, isIn, different, allOf, key, keys, role, root}
 use Rattle.rules.specs.Reading.{readRoot}
-use Rattle.rules.specs.State.{Root, filter, keepRole, keepRoot, kept, rootIn}
+use Rattle.rules.specs.State.{Root, filter, keepRole, keepRoot, rootIn}
 use Rattle.rules.specs.Words.{Different, SameKeys}
-use Rattle.rules.proofs.OptionLaws.{none-not-some, some-is, had, kept-is}
+use Rattle.rules.proofs.OptionLaws.{none-not-some, some-is, had, kept-is, number-within}
 use Rattle.rules.proofs.ListLaws.{different-true, all-true, is-in, no-longer, filtered, filter-different}
 use Rattle.rules.proofs.OrderLaws.{less-self, less-trans, hex-one}
-use Rattle.rules.proofs.ReadingLaws.{parsed-exactly, role-file}
+use Rattle.rules.proofs.ReadingLaws.{parsed-exactly, role-file, body-is, kept-says}
 
 -- ## Members of a valid value are valid
 
@@ -141,14 +140,6 @@ keys-different v ks h e =
 
 -- ## A role
 
-number-within : (lo hi : ℕ) (v : Json) (n : ℕ) → number lo hi v ≡ some n → (lo ≤ n) × (n ≤ hi)
-unfolding number between
-number-within lo hi v n e =
-    let m = had _ _ e in
-    let k = kept-is (leb lo (m .0) && leb (m .0) hi) (m .0) (m .2) in
-    let w = both (leb lo (m .0)) (leb (m .0) hi) (k .0) in
-    subst (λ (x : ℕ). (lo ≤ x) × (x ≤ hi)) (k .1) (leb-true lo (m .0) (w .0), leb-true (m .0) hi (w .1))
-
 -- what a role of a file says, by its form
 record RoleSays (table : List Bytes) (r : Role) : Type 0 where
   different : Different (r .keyids)
@@ -235,17 +226,6 @@ root-says v r h e =
       ofTargets = named-role _ _ (roles .0) (ofTargets .0) (ofTargets .1);
     })
 
--- the body of a role's file
-body-is : {A : Type 0} (type : Bytes) (body : Json → Option A) (v : Json) (f : File A) → fileOf type body v ≡ some f → body v ≡ some (f .body)
-unfolding fileOf
-body-is type body v f e =
-    let t = had _ _ e in
-    let spec = had _ _ (t .2) in
-    let version = had _ _ (spec .2) in
-    let expires = had _ _ (version .2) in
-    let b = had _ _ (expires .2) in
-    b .1 ∙ ap some (ap (λ (x : File _). x .body) (some-is (b .2)))
-
 signed-valid : (v : Json) (e : Envelope) → ValidSome v → envelope v ≡ some e → ValidSome (e .signed)
 unfolding envelope
 signed-valid v e h q =
@@ -272,12 +252,6 @@ root-kept file f es h =
       ofSnapshot = role-kept (f .body .keys) (f .body .snapshotRole) (s .different) (s .ofSnapshot);
       ofTargets = role-kept (f .body .keys) (f .body .targetsRole) (s .different) (s .ofTargets);
     }
-
--- a reading of what is kept is one of what the file says
-pub kept-says : {A B : Type 0} (f : A → B) (g : Read A) (b : B) (es : List Bytes) → kept f g ≡ says b es → (a : A) × (g ≡ says a es) × (f a ≡ b)
-unfolding kept
-kept-says f (refused x) b es e = never (cc)
-kept-says f (says a ks) b es e = let ks-is : ks ≡ es = cc in (a, ap (says a) ks-is, cc)
 
 pub kept-same : (file : Bytes) (r : Root) (es : List Bytes) → rootIn file ≡ says r es
     → (f : File records.Root) × (readRoot file ≡ says f es) × (keepRoot f ≡ r) × RootKept (f .body) r

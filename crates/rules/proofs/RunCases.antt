@@ -1,4 +1,4 @@
--- A small shelf, played: the answers of calls in turn, each given the state that the one before returned.
+-- A small shelf, from install to find: the answer of each call, and the state that it returns to the next.
 use mathlib.Core.Path.{refl}
 use mathlib.Core.List.{List, [], _∷_, _++_}
 use mathlib.Core.Option.{none, some}

@@ -12,25 +12,29 @@ use Rattle.rules.specs.Records.{Role, Listed}
 use Rattle.rules.specs.State.{Root, Timestamp, Snapshot, State}
 use Rattle.rules.specs.Table.{first, absent}
 use Rattle.rules.specs.Steps.{rootTable, timestampTable, snapshotTable, targetsTable, findTable, withRoot}
+use Rattle.rules.specs.Asked.{imageTable, imageAnswer}
 use Rattle.rules.proofs.Cases.{Case, _gives_, Right, a, b, both}
 use Rattle.rules.proofs.Computing.{tables}
 
--- ## A small world: roots are signed by key a, the other files by key b
+-- ## Files and states: roots are signed by key a, the other files by key b
 
 abbrev pub only : Bytes → Role
 only k = record { keyids = k ∷ []; threshold = 1 }
 
-abbrev pub rootAt : ℕ → Role → Role → Role → Root
-rootAt version timestampRole snapshotRole targetsRole =
+abbrev pub rootUntil : ℤ → ℕ → Role → Role → Role → Root
+rootUntil expires version timestampRole snapshotRole targetsRole =
     record {
       version = version;
-      expires = pos 1000;
+      expires = expires;
       keys = [];
       rootRole = only a;
       timestampRole = timestampRole;
       snapshotRole = snapshotRole;
       targetsRole = targetsRole;
     }
+
+abbrev pub rootAt : ℕ → Role → Role → Role → Root
+rootAt = rootUntil (pos 1000)
 
 abbrev pub root4 : Root
 root4 = rootAt 4 (only b) (only b) (only b)
@@ -44,34 +48,41 @@ listed version = record { version = version; length = some 30; digest = some (di
 abbrev pub timestampAt : ℕ → ℤ → ℕ → Timestamp
 timestampAt version expires snapshot = record { version = version; expires = expires; snapshot = listed snapshot }
 
-abbrev pub snapshotAt : ℕ → ℕ → Snapshot
-snapshotAt version targets =
+abbrev pub snapshotUntil : ℤ → ℕ → ℕ → Snapshot
+snapshotUntil expires version targets =
     record {
       version = version;
-      expires = pos 1000;
+      expires = expires;
       names = record { name = bytes "targets.json"; listed = listed targets } ∷ [];
     }
+
+abbrev pub snapshotAt : ℕ → ℕ → Snapshot
+snapshotAt = snapshotUntil (pos 1000)
 
 -- a state that holds root 4 only
 abbrev pub holding : ℤ → State
 holding start = record { root = some root4; timestamp = none; snapshot = none; targets = none; start = start }
 
--- a state that holds root 4, timestamp 2, snapshot 3 and targets 7, and whose snapshot lists that version of targets
-abbrev pub full : ℕ → State
-full targets =
+-- a state that holds root 4, timestamp 2, snapshot 3 and targets 7, by when each expires, the snapshot that the timestamp lists and the
+-- targets that the snapshot lists
+abbrev pub holdingAll : ℤ → ℤ → ℤ → ℤ → ℕ → ℕ → State
+holdingAll r t n g snapshot targets =
     record {
-      root = some root4;
-      timestamp = some (timestampAt 2 (pos 1000) 3);
-      snapshot = some (snapshotAt 3 targets);
-      targets = some (record { version = 7; expires = pos 1000; digest = digest 7 });
+      root = some (rootUntil r 4 (only b) (only b) (only b));
+      timestamp = some (timestampAt 2 t snapshot);
+      snapshot = some (snapshotUntil n 3 targets);
+      targets = some (record { version = 7; expires = g; digest = digest 7 });
       start = pos 999;
     }
 
+abbrev pub full : ℕ → State
+full = holdingAll (pos 1000) (pos 1000) (pos 1000) (pos 1000) 3
+
 -- ## Answers. A file has one entry, with these verdicts
 
-abbrev pub toRoot : ℤ → ℕ → ℕ → ℕ → ℕ
-toRoot start heldVerdict ownVerdict version =
-    first (rootTable (holding start) (record { file = []; heldRow = heldVerdict ∷ []; ownRow = ownVerdict ∷ [] })
+abbrev pub toRoot : State → ℕ → ℕ → ℕ → ℕ
+toRoot s heldVerdict ownVerdict version =
+    first (rootTable s (record { file = []; heldRow = heldVerdict ∷ []; ownRow = ownVerdict ∷ [] })
     (rootAt version (only b) (only b) (only b)) (a ∷ []))
 
 abbrev pub toTimestamp : State → ℕ → Timestamp → ℕ
@@ -102,15 +113,15 @@ toFind s digests path paths =
 abbrev pub answers : List (Case ℕ)
 answers =
     -- "Held root 4: version 5 goes on; 4 and 6 are 11", also where both have expired
-    toRoot (pos 2000) 1 1 5 gives 0
-    ∷ toRoot (pos 2000) 1 1 4 gives 11
-    ∷ toRoot (pos 2000) 1 1 6 gives 11
+    toRoot (holding (pos 2000)) 1 1 5 gives 0
+    ∷ toRoot (holding (pos 2000)) 1 1 4 gives 11
+    ∷ toRoot (holding (pos 2000)) 1 1 6 gives 11
     -- one row of verdicts is not enough
-    ∷ toRoot (pos 2000) 0 1 5 gives 9
-    ∷ toRoot (pos 2000) 1 0 5 gives 10
+    ∷ toRoot (holding (pos 2000)) 0 1 5 gives 9
+    ∷ toRoot (holding (pos 2000)) 1 0 5 gives 10
     -- "a verdict not 0 or 1"
-    ∷ toRoot (pos 2000) 2 1 5 gives 5
-    ∷ toRoot (pos 2000) 1 2 5 gives 5
+    ∷ toRoot (holding (pos 2000)) 2 1 5 gives 5
+    ∷ toRoot (holding (pos 2000)) 1 2 5 gives 5
     -- "Expires 1000: start 999 passes, 1000 is expired"
     ∷ toTimestamp (holding (pos 999)) 1 (timestampAt 1 (pos 1000) 1) gives 0
     ∷ toTimestamp (holding (pos 1000)) 1 (timestampAt 1 (pos 2000) 1) gives 7
@@ -129,18 +140,15 @@ answers =
     ∷ toSnapshot (full 7) 0 30 5 (snapshotAt 3 7) gives 9
     ∷ toSnapshot (full 7) 1 30 5 (snapshotAt 4 7) gives 11
     ∷ toSnapshot (full 7) 1 30 5 (snapshotAt 3 6) gives 13
-    ∷ toSnapshot (holding (pos 999)) 1 30 5 (snapshotAt 3 7) gives 6
     -- targets as listed; of another length, digest, version; not signed
     ∷ toTargets (full 8) 1 30 5 8 gives 0
     ∷ toTargets (full 8) 1 31 5 8 gives 8
     ∷ toTargets (full 8) 1 30 6 8 gives 8
     ∷ toTargets (full 8) 0 30 5 8 gives 9
     ∷ toTargets (full 8) 1 30 5 9 gives 11
-    ∷ toTargets (holding (pos 999)) 1 30 5 7 gives 6
-    -- a listed path; with another digest than the kept one; where the snapshot lists other targets
+    -- a listed path; with another digest than the kept one
     ∷ toFind (full 7) 7 (bytes "a") (bytes "a" ∷ []) gives 0
     ∷ toFind (full 7) 6 (bytes "a") (bytes "a" ∷ []) gives 8
-    ∷ toFind (full 8) 7 (bytes "a") (bytes "a" ∷ []) gives 6
     -- "Empty targets list: a find to which 1 to 8 do not apply is 15"
     ∷ toFind (full 7) 7 (bytes "a") [] gives 15
     -- "A path of length 0 or above 128 is 15"
@@ -152,6 +160,84 @@ answers =
 pub answers-right : Right answers
 unfolding tables
 answers-right = refl
+
+-- ## What each step needs and leans on
+
+-- the step's answers where the root, the timestamp, the snapshot, the targets have expired
+abbrev pub expired1 : (State → ℕ) → List ℕ
+expired1 f =
+    f (holdingAll (pos 999) (pos 1000) (pos 1000) (pos 1000) 3 7)
+    ∷ f (holdingAll (pos 1000) (pos 999) (pos 1000) (pos 1000) 3 7)
+    ∷ f (holdingAll (pos 1000) (pos 1000) (pos 999) (pos 1000) 3 7)
+    ∷ f (holdingAll (pos 1000) (pos 1000) (pos 1000) (pos 999) 3 7)
+    ∷ []
+
+-- the same where one is not held, and where the snapshot, the targets are not current
+abbrev pub missing1 : (State → ℕ) → List ℕ
+missing1 f =
+    let s = full 7 in
+    f (record { root = none; timestamp = s .timestamp; snapshot = s .snapshot; targets = s .targets; start = s .start })
+    ∷ f (record { root = s .root; timestamp = none; snapshot = s .snapshot; targets = s .targets; start = s .start })
+    ∷ f (record { root = s .root; timestamp = s .timestamp; snapshot = none; targets = s .targets; start = s .start })
+    ∷ f (record { root = s .root; timestamp = s .timestamp; snapshot = s .snapshot; targets = none; start = s .start })
+    ∷ f (holdingAll (pos 1000) (pos 1000) (pos 1000) (pos 1000) 4 7)
+    ∷ f (holdingAll (pos 1000) (pos 1000) (pos 1000) (pos 1000) 3 8)
+    ∷ []
+
+-- a good file for each step
+abbrev pub goodRoot : State → ℕ
+goodRoot s = toRoot s 1 1 5
+
+abbrev pub goodTimestamp : State → ℕ
+goodTimestamp s = toTimestamp s 1 (timestampAt 3 (pos 1000) 4)
+
+abbrev pub goodSnapshot : State → ℕ
+goodSnapshot s = toSnapshot s 1 30 5 (snapshotAt 3 8)
+
+abbrev pub goodTargets : State → ℕ
+goodTargets s = toTargets s 1 30 5 7
+
+abbrev pub goodFind : State → ℕ
+goodFind s = toFind s 7 (bytes "a") (bytes "a" ∷ [])
+
+abbrev pub leans : List (Case (List ℕ))
+leans =
+    -- "Expiry does not matter here"; "leans on root"; "on root and timestamp"; "root, timestamp, snapshot"; "on all four"
+    expired1 goodRoot gives (0 ∷ 0 ∷ 0 ∷ 0 ∷ [])
+    ∷ expired1 goodTimestamp gives (7 ∷ 0 ∷ 0 ∷ 0 ∷ [])
+    ∷ expired1 goodSnapshot gives (7 ∷ 7 ∷ 0 ∷ 0 ∷ [])
+    ∷ expired1 goodTargets gives (7 ∷ 7 ∷ 7 ∷ 0 ∷ [])
+    ∷ expired1 goodFind gives (7 ∷ 7 ∷ 7 ∷ 7 ∷ [])
+    -- "needs a timestamp"; "needs a current snapshot"; "Needs current targets .. and a current snapshot". The last but one of a snapshot
+    -- and the last of targets are 11: another version is listed
+    ∷ missing1 goodRoot gives (6 ∷ 0 ∷ 0 ∷ 0 ∷ 0 ∷ 0 ∷ [])
+    ∷ missing1 goodTimestamp gives (6 ∷ 0 ∷ 0 ∷ 0 ∷ 0 ∷ 0 ∷ [])
+    ∷ missing1 goodSnapshot gives (6 ∷ 6 ∷ 0 ∷ 0 ∷ 11 ∷ 0 ∷ [])
+    ∷ missing1 goodTargets gives (6 ∷ 6 ∷ 6 ∷ 0 ∷ 6 ∷ 11 ∷ [])
+    ∷ missing1 goodFind gives (6 ∷ 6 ∷ 6 ∷ 6 ∷ 6 ∷ 6 ∷ [])
+    ∷ []
+
+pub leans-right : Right leans
+unfolding tables
+leans-right = refl
+
+-- ## Image: "the found length and digest against the fetched ones"
+
+abbrev pub toImage : ℕ → ℕ → Bytes → ℕ
+toImage listedLength fetchedLength fetched =
+    imageAnswer (record { length = listedLength; digest = digest 5 }) (record { length = fetchedLength; digest = fetched })
+
+abbrev pub fetches : List (Case ℕ)
+fetches =
+    toImage 30 30 (digest 5) gives 0
+    ∷ toImage 30 31 (digest 5) gives 8
+    ∷ toImage 30 30 (digest 6) gives 8
+    ∷ toImage 30 31 (replicate 31 5) gives 5
+    ∷ []
+
+pub fetches-right : Right fetches
+unfolding tables imageTable imageAnswer
+fetches-right = refl
 
 -- ## What an accepted root drops: whether timestamp, snapshot, targets
 

@@ -1,52 +1,65 @@
-use borrow.Author.Needs.{needs}
+-- `json::char_at` meets its contract, by the byte at `i`.
 use native.Mathlib.Omega.{arith}
 use borrow.Author.Needs.{needs}
 use Rattle.json.proofs.NameLaws as names
 use Rattle.json.proofs.char_at.Statement.{statement}
 use Rattle.json.proofs.char_at.Tie as tie
 
--- src/lib.rt:191:9
 returns : tie.Need-returns
-returns c = let a = (c .before) .args in names.over (a .s .now) (a .i) (c .if1 .taken)
+returns c =
+    let a = c .before .args in
+    let h = c .if1 .taken in
+    record { is = names.char-over (a .s .now) (a .i) h; means = names.over (a .s .now) (a .i) h }
 
--- src/lib.rt:193:13
-shared-slice-read-b : tie.Need-shared-slice-read-b
-shared-slice-read-b c = search needs
+shared-slice-read-first : tie.Need-shared-slice-read-first
+shared-slice-read-first c = search needs
 
--- src/lib.rt:195:9
 returns-2 : tie.Need-returns-2
-returns-2 c = let a = (c .before .before .before) .args in names.closed (a .s .now) (a .i) ((c .before .before) .if1 .left) (c .if2 .taken)
+returns-2 c =
+    let a = c .before .before .before .args in
+    let h = c .before .before .if1 .left in
+    let e = c .if2 .taken in
+    record { is = names.char-closed (a .s .now) (a .i) h e; means = names.closed (a .s .now) (a .i) h e }
 
--- src/lib.rt:197:13
 add-j : tie.Need-add-j
 add-j c = search needs
 
--- src/lib.rt:200:13
 returns-3 : tie.Need-returns-3
-returns-3 c = let a = (c .before .before .before .before .before) .args in names.lone (a .s .now) (a .i) ((c .before .before .before .before) .if1 .left) ((c .before) .if3 .taken) (c .if4 .taken)
+returns-3 c =
+    let a = c .before .before .before .before .before .args in
+    let h = c .before .before .before .before .if1 .left in
+    let e = c .before .if3 .taken in
+    let k = c .if4 .taken in
+    record { is = names.char-lone (a .s .now) (a .i) h e k; means = names.lone (a .s .now) (a .i) h e k }
 
--- src/lib.rt:202:27
 shared-slice-read-t12 : tie.Need-shared-slice-read-t12
 shared-slice-read-t12 c = search needs
 
--- src/lib.rt:202:33
 add-t9 : tie.Need-add-t9
 add-t9 c = search needs
 
--- src/lib.rt:202:9
 returns-4 : tie.Need-returns-4
-returns-4 c = let a = (c .before .before .before .before .before .before) .args in let h = (c .before) .if4 .left in (names.escaped (a .s .now) (a .i) ((c .before .before .before .before .before) .if1 .left) ((c .before .before) .if3 .taken) ((c .before) .if4 .left), omega arith, omega arith)
+returns-4 c =
+    let a = c .before .before .before .before .before .before .args in
+    let h = c .before .before .before .before .before .if1 .left in
+    let e = c .before .before .if3 .taken in
+    let k = c .before .if4 .left in
+    record { is = names.char-escaped (a .s .now) (a .i) h e k; means = (names.escaped (a .s .now) (a .i) h e k, omega arith, omega arith) }
 
--- src/lib.rt:187:1
 returns-5 : tie.Need-returns-5
-returns-5 c = let a = (c .before .before .before .before) .args in let h = (c .before .before .before) .if1 .left in (names.byte (a .s .now) (a .i) ((c .before .before .before) .if1 .left) ((c .before) .if2 .left) (c .if3 .left), omega arith, omega arith)
+returns-5 c =
+    let a = c .before .before .before .before .args in
+    let h = c .before .before .before .if1 .left in
+    let e = c .before .if2 .left in
+    let f = c .if3 .left in
+    record { is = names.char-byte (a .s .now) (a .i) h e f; means = (names.byte (a .s .now) (a .i) h e f, omega arith, omega arith) }
 
 pub char-at-spec : {M : Type 1} → statement M
 char-at-spec =
     tie.close
     (tie.spec
     returns
-    shared-slice-read-b
+    shared-slice-read-first
     returns-2
     add-j
     returns-3

@@ -1,8 +1,9 @@
+-- `json::word` meets its contract. The invariant: the word stands at `at` where its rest stands at `i`.
 use mathlib.Core.Path.{_≡_, sym, _∙_}
 use Prim.Native.Nat.{_≤_, _-_}
 use native.Mathlib.Omega.{arith}
-use borrow.Author.Needs.{needs}
 use lib.ListN.{length, drop}
+use borrow.Author.Needs.{needs}
 use Rattle.json.specs.Read.{endOf, word}
 use Rattle.json.proofs.Words as words
 use Rattle.json.proofs.word.Statement.{statement}
@@ -14,52 +15,42 @@ Inv-loop s at w i₀ k₀ i k = (i ≤ length s) × (endOf (length s) (word w (d
 abbrev μ-loop : tie.MeasureT-loop
 μ-loop s at w i₀ k₀ i k = length w - k
 
--- src/lib.rt:121:5
 loop-holds : tie.Need-loop-holds Inv-loop μ-loop
 loop-holds c = search needs
 
--- src/lib.rt:123:13
 returns : tie.Need-returns Inv-loop μ-loop
 returns c =
     let l = c .before .before in
     let a = l .before .args in
     sym (l .loop .inv .1 ∙ words.over (a .s .now) (a .w .now) (l .loop .i) (l .loop .k) (c .before .loop-test .taken) (c .if1 .taken))
 
--- src/lib.rt:125:12
 shared-slice-read-if2 : tie.Need-shared-slice-read-if2 Inv-loop μ-loop
 shared-slice-read-if2 c = search needs
 
--- src/lib.rt:125:20
 shared-slice-read-if2-2 : tie.Need-shared-slice-read-if2-2 Inv-loop μ-loop
 shared-slice-read-if2-2 c = search needs
 
--- src/lib.rt:126:13
 returns-2 : tie.Need-returns-2 Inv-loop μ-loop
 returns-2 c =
     let l = c .before .before .before .before .before in
     let a = l .before .args in
     sym (l .loop .inv .1 ∙ words.differs (a .s .now) (a .w .now) (l .loop .i) (l .loop .k) (c .before .before .before .before .loop-test .taken) (c .before .before .before .if1 .left) (c .if2 .taken))
 
--- src/lib.rt:128:9
 add-i : tie.Need-add-i Inv-loop μ-loop
 add-i c = search needs
 
--- src/lib.rt:129:9
 add-k : tie.Need-add-k Inv-loop μ-loop
 add-k c = search needs
 
--- src/lib.rt:121:5
 loop-less : tie.Need-loop-less Inv-loop μ-loop
 loop-less c = search needs
 
--- src/lib.rt:121:5
 loop-again : tie.Need-loop-again Inv-loop μ-loop
 loop-again c =
     let l = c .before .before .before .before .before in
     let a = l .before .args in
     (omega arith, l .loop .inv .1 ∙ words.same (a .s .now) (a .w .now) (l .loop .i) (l .loop .k) (c .before .before .before .before .loop-test .taken) (c .before .before .before .if1 .left) (c .if2 .left))
 
--- src/lib.rt:115:1
 returns-3 : tie.Need-returns-3 Inv-loop μ-loop
 returns-3 c =
     let l = c .before in
