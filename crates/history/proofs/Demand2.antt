@@ -3,10 +3,11 @@ use mathlib.Core.Path.{refl}
 use mathlib.Core.List.{List, [], _∷_}
 use Rattle.rules.specs.State.{State, Install, Call, find, askKey, askState}
 use Rattle.rules.specs.Steps.{answer, offered, started, next, installed}
-use Rattle.rules.specs.Exactly.{RootRead, InstallExactly, Demand2}
+use Rattle.rules.specs.Asked.{Found}
+use Rattle.rules.specs.Exactly.{RootRead, InstallExactly, ImageExactly, Demand2}
 use Rattle.rules.specs.History.{History, run, end}
 use Rattle.history.proofs.NextLaws.{next-refused, next-same}
-use Rattle.history.proofs.ExactlyLaws.{root-good, good-root, root-after, timestamp-good, good-timestamp, timestamp-after, snapshot-good, good-snapshot, snapshot-after, targets-good, good-targets, targets-after, find-good, good-find, finds, finds-nothing, key-good, good-key, key-given, no-key, next-cycle, install-good, good-install, install-after, install-refused}
+use Rattle.history.proofs.ExactlyLaws.{root-good, good-root, root-after, timestamp-good, good-timestamp, timestamp-after, snapshot-good, good-snapshot, snapshot-after, targets-good, good-targets, targets-after, find-good, good-find, finds, finds-nothing, key-good, good-key, key-given, no-key, image-good, good-image, next-cycle, install-good, good-install, install-after, install-refused}
 use Rattle.history.proofs.Trusted.{read-next, read-installed}
 
 pub install-exactly : (o : Install) → InstallExactly o
@@ -16,6 +17,9 @@ install-exactly o =
       installAfter = λ r g. install-after o r (g .entries) (g .reads) (good-install o r g);
       installRefused = install-refused o;
     }
+
+pub image-exactly : (listed fetched : Found) → ImageExactly listed fetched
+image-exactly listed fetched = (image-good listed fetched, good-image listed fetched)
 
 pub demand2 : (s : State) → RootRead s → Demand2 s
 unfolding answer offered started

@@ -7,7 +7,7 @@ use native.Mathlib.Omega.{arith}
 use native.Mathlib.Nat.{le-of-lt}
 use lib.IntN.{ℤ}
 use lib.ListN.{length}
-use borrow.Author.Tests.{ltb-false, le-ltb, eqb-false, ne-eqb, leb-false, lt-leb, not-false}
+use borrow.Author.Tests.{eq-eqb, eqb-true, ltb-false, le-ltb, eqb-false, ne-eqb, leb-false, lt-leb, not-false}
 use Rattle.base.specs.Bytes.{Bytes}
 use Rattle.base.specs.Hex.{undo}
 use Rattle.date.specs.Calendar.{expired}
@@ -17,9 +17,9 @@ use Rattle.rules.specs.State.{Root, Timestamp, Snapshot, State, blank, rootIn, 
 use Rattle.rules.specs.Table.{first, ofHeld, absent}
 use Rattle.rules.specs.Conditions.{staleSnapshot, staleTargets, imageOf, keyOf}
 use Rattle.rules.specs.Steps.{installTable, cycleTable, rootTable, timestampTable, snapshotTable, targetsTable, findTable, keyTable, installAnswer, installed, begun, rootAlone, answer, refuses, next, withStart, withRoot, withTimestamp, withSnapshot, withTargets, aRoot, aTimestamp, aSnapshot, aTargets, offered, started, trusting, afterRoot}
-use Rattle.rules.specs.Asked.{nothingFound, theImage, inTargets, found, zeros, publicOf, inRoot, publicKey}
+use Rattle.rules.specs.Asked.{Found, imageTable, imageAnswer, nothingFound, theImage, inTargets, found, zeros, publicOf, inRoot, publicKey}
 use Rattle.rules.specs.Words.{Different}
-use Rattle.rules.specs.Exactly.{LeansOnRoot, LeansOnTimestamp, LeansOnSnapshot, LeansOnTargets, InstallGood, RootGood, TimestampGood, SnapshotGood, TargetsGood, FindGood, KeyGood, RootRead}
+use Rattle.rules.specs.Exactly.{LeansOnRoot, LeansOnTimestamp, LeansOnSnapshot, LeansOnTargets, InstallGood, RootGood, TimestampGood, SnapshotGood, TargetsGood, FindGood, KeyGood, ImageGood, RootRead}
 use Rattle.rules.proofs.OptionLaws.{not-absent}
 use Rattle.rules.proofs.ListLaws.{not-exactly, same-exactly}
 use Rattle.rules.proofs.WordLaws.{row-good, digest-good, version-exactly, fresh-exactly, enough-passes, passes-enough, keeps-exactly, matches-exactly}
@@ -371,6 +371,29 @@ module _ (s : State) (k : Bytes) where
   pub no-key : ¬ (answer s (askKey k) ≡ 0) → publicKey s k ≡ zeros keySize
   unfolding publicKey refuses
   no-key f = rw (ne-eqb _ _ f)
+
+-- ## Image
+
+pub image-good : (listed fetched : Found) → imageAnswer listed fetched ≡ 0 → ImageGood listed fetched
+unfolding imageAnswer imageTable
+image-good listed fetched a =
+    let p = no-line (imageTable listed fetched) refl a in
+    record {
+      listedDigest = digest-good _ .0 (p 5 0);
+      fetchedDigest = digest-good _ .0 (p 5 1);
+      sameLength = eqb-true _ _ (not-false _ (p 8 0));
+      sameDigest = not-exactly _ (same-exactly _ _) .0 (p 8 1);
+    }
+
+pub good-image : (listed fetched : Found) → ImageGood listed fetched → imageAnswer listed fetched ≡ 0
+unfolding imageAnswer imageTable
+good-image listed fetched g =
+    clear-first (imageTable listed fetched)
+    (digest-good _ .1 (g .listedDigest)
+    & digest-good _ .1 (g .fetchedDigest)
+    & rw (eq-eqb (listed .length) (fetched .length) (g .sameLength)) refl
+    & not-exactly _ (same-exactly _ _) .1 (g .sameDigest)
+    & tt)
 
 -- ## Calls that offer no file
 

@@ -9,24 +9,24 @@ use Prim.Native.Nat.{ℕ, suc, _≤_, _<_}
 use native.Mathlib.Omega.{arith}
 use lib.IntN.{ℤ, pos}
 use lib.ListN.{length, take, drop}
-use Rattle.base.specs.Bytes.{Bytes, bytes, same}
+use Rattle.base.specs.Bytes.{Bytes, bytes}
 use Rattle.base.specs.Hex.{digitOf, allHex, isHex, undo}
 use Rattle.date.specs.Calendar.{expired}
 use Rattle.rules.specs.Records.{Image, File}
-use Rattle.rules.specs.Forms.{isIn}
-use Rattle.rules.specs.State.{Root, Timestamp, Snapshot, Targets, State, filter, keepTargets, rootIn, timestampIn, snapshotIn, targetsIn, Row, Install, RootOffer, TimestampOffer, FileOffer, Query, Call, newCycle, newRoot, newTimestamp, newSnapshot, newTargets, find, askKey, askState}
+use Rattle.rules.specs.State.{Root, Timestamp, Snapshot, Targets, State, keepTargets, rootIn, timestampIn, snapshotIn, targetsIn, Row, Install, RootOffer, TimestampOffer, FileOffer, Query, Call, newCycle, newRoot, newTimestamp, newSnapshot, newTargets, find, askKey, askState}
 use Rattle.rules.specs.Table.{first}
-use Rattle.rules.specs.Conditions.{badRow, badDigest, otherVersion, listedAs, targetsEntry, staleSnapshot, staleTargets, otherLength, otherDigest, signed, count, tooFew, fallen, lost, within, rotated, rotates, rotatesTargets, imageOf, keyOf}
 use Rattle.rules.specs.Steps.{installTable, rootTable, timestampTable, snapshotTable, targetsTable, findTable, keyTable, installAnswer, answer, next, installed, rootAlone, withStart, withRoot, withTimestamp, withSnapshot, withTargets, aRoot, aTimestamp, aSnapshot, aTargets, offered, trusting, started, afterRoot}
 use Rattle.rules.specs.Words.{GoodRow, Enough, Keeps}
 use Rattle.rules.specs.History.{History, run, end, Event, calls, events, happened, Apart, BecomesTrusted, atCall, Idle, Plan, afterRoots, atTimestamp, atSnapshot, atTargets, lastRoot, Fresh, Honest, Through}
+use Rattle.rules.proofs.Texts.{k, l}
+use Rattle.rules.proofs.Computing.{tables}
 use Rattle.rules.proofs.OptionLaws.{none-not-some, some-is}
 use Rattle.rules.proofs.WordLaws.{row-good, fresh-exactly, passes-enough, keeps-exactly, matches-exactly}
 use Rattle.history.proofs.TableLaws.{one-held, judged-is}
 use Rattle.history.proofs.NextLaws.{next-trusting, next-refused, next-same, says-what}
 use Rattle.history.proofs.ExactlyLaws.{next-cycle, install-after}
 use Rattle.history.proofs.Demand3.{apart-at, demand3}
-use Rattle.history.proofs.WitnessFiles.{aText, bText, a, b, only, rootText, rootAt, versionText, d, fullText, versionOnly, full, timestampText, timestampAt, snapshotText, targetsText, targetsAt, imageText, anImage, plainNames, moreNames, lowNames, fullNames, low, complete, Says, readings}
+use Rattle.history.proofs.WitnessFiles.{a, b, only, rootText, rootAt, versionText, d, fullText, versionOnly, full, timestampText, timestampAt, snapshotText, targetsText, targetsAt, imageText, anImage, plainNames, moreNames, lowNames, fullNames, low, complete, Says, readings}
 
 -- ## The calls
 
@@ -47,7 +47,7 @@ abbrev pub offer : Bytes → Row → FileOffer
 offer file row = record { file = file; row = row; digest = d }
 
 abbrev pub theInstall : Install
-theInstall = record { file = rootText "1" aText aText aText; row = byA; start = pos 1000 }
+theInstall = record { file = rootText "1" k k k; row = byA; start = pos 1000 }
 
 abbrev pub theCalls : List Call
 theCalls =
@@ -60,15 +60,15 @@ theCalls =
     ∷ newSnapshot (offer (snapshotText "7" moreNames) byA)
     ∷ newTargets (offer (targetsText "3" []) byA)
     -- a root that changes the targets keys alone: the targets have to be signed anew
-    ∷ aNewRoot (rootText "2" aText aText bText)
+    ∷ aNewRoot (rootText "2" k k l)
     ∷ newTargets (offer (targetsText "3" imageText) byA)
     ∷ newTargets (offer (targetsText "3" imageText) byB)
     -- a root that rotates the timestamp keys: lower versions come after it
-    ∷ aNewRoot (rootText "3" bText aText bText)
+    ∷ aNewRoot (rootText "3" l k l)
     ∷ aNewTimestamp (timestampText "1" (versionText "2")) byB
     ∷ newSnapshot (offer (snapshotText "2" lowNames) byA)
     ∷ newTargets (offer (targetsText "1" imageText) byB)
-    ∷ askKey aText
+    ∷ askKey k
     ∷ []
 
 -- ## Each call in its turn
@@ -177,7 +177,7 @@ kept version = record { version = version; expires = pos 1893456000; digest = d 
 chain : Chain (at (rootAt 1 a a a) none none none (pos 1000)) theCalls
     (0 ∷ 0 ∷ 0 ∷ 0 ∷ 0 ∷ 0 ∷ 0 ∷ 0 ∷ 9 ∷ 0 ∷ 0 ∷ 0 ∷ 0 ∷ 0 ∷ 0 ∷ [])
     (at (rootAt 3 b a b) (some (timestampAt 1 (versionOnly 2))) (some low) (some (kept 1)) (pos 1000))
-unfolding same digitOf allHex isHex undo expired isIn filter first badRow badDigest otherVersion listedAs targetsEntry staleSnapshot staleTargets otherLength otherDigest signed count tooFew fallen lost within rotated rotates rotatesTargets imageOf keyOf rootTable timestampTable snapshotTable targetsTable findTable keyTable withRoot withTimestamp withSnapshot withTargets keepTargets
+unfolding tables digitOf allHex isHex undo withRoot withTimestamp withSnapshot withTargets keepTargets
 chain =
     step (timestamp-goes _ (readings .timestamp5) refl)
     (step (snapshot-goes _ (readings .snapshot7) refl)
@@ -197,7 +197,7 @@ chain =
     stop))))))))))))))
 
 pub install-answers : installAnswer theInstall ≡ 0
-unfolding installAnswer installTable first badRow signed count tooFew same filter
+unfolding tables installAnswer
 install-answers = judged-is (installTable theInstall) (readings .root1)
 
 abbrev pub theHistory : History
@@ -272,8 +272,8 @@ plan =
     record {
       roots =
           record {
-            between = aNewRoot (rootText "3" bText aText bText) ∷ [];
-            offer = record { file = rootText "4" bText aText bText; heldRow = byA; ownRow = byA };
+            between = aNewRoot (rootText "3" l k l) ∷ [];
+            offer = record { file = rootText "4" l k l; heldRow = byA; ownRow = byA };
             file = rootAt 4 b a b;
             entries = both;
             reads = readings .root4;
@@ -322,22 +322,22 @@ state-goes : {s : State} → Goes s askState 0 s
 unfolding answer offered started
 state-goes {s} = record { answers = refl; becomes = next-same s askState refl refl }
 
-root-again : Goes theEnd (aNewRoot (rootText "3" bText aText bText)) 11 theEnd
-unfolding first badRow otherVersion signed count tooFew same filter rootTable
+root-again : Goes theEnd (aNewRoot (rootText "3" l k l)) 11 theEnd
+unfolding tables
 root-again = root-refused (rootAt 3 b a b) (readings .root3) refl
 
 at-timestamp : atTimestamp theEnd plan ≡ before₁
-unfolding run afterRoots first badRow otherVersion signed count tooFew same filter isIn within rotated rotates rotatesTargets rootTable withRoot withStart
+unfolding tables run afterRoots withRoot withStart
 at-timestamp = chain-run (step root-again (step (root-goes (rootAt 3 b a b) (rootAt 4 b a b) refl (readings .root4) refl) (step cycle-goes stop)))
 
 at-snapshot : atSnapshot theEnd plan ≡ before₂
-unfolding run first badRow expired signed count tooFew same filter timestampTable withTimestamp
+unfolding tables run withTimestamp
 at-snapshot =
     ap (λ (s : State). run (next s (newTimestamp (plan .timestamp .offer))) (askState ∷ [])) at-timestamp
     ∙ chain-run (step (timestamp-goes (timestampAt 2 (full 699 3)) (readings .timestamp2) refl) (step state-goes stop))
 
 at-targets : atTargets theEnd plan ≡ before₃
-unfolding run first badRow badDigest expired otherVersion otherLength otherDigest listedAs fallen lost signed count tooFew same filter snapshotTable withSnapshot withStart
+unfolding tables run withSnapshot withStart
 at-targets =
     ap (λ (s : State). run (next s (newSnapshot (plan .snapshot .offer))) (newCycle (pos 3000) ∷ [])) at-snapshot
     ∙ chain-run (step (snapshot-goes complete (readings .snapshot3) refl) (step cycle-goes stop))
@@ -356,19 +356,19 @@ held-is e part Q p q k = subst Q (some-is (sym q ∙ ap part (sym e) ∙ p)) k
 
 -- rows and keys
 row-a : GoodRow both byA
-unfolding badRow
+unfolding tables
 row-a = row-good both byA .0 refl
 
 row-b : GoodRow both byB
-unfolding badRow
+unfolding tables
 row-b = row-good both byB .0 refl
 
 enough-a : Enough (only a) both byA
-unfolding tooFew count filter signed same
+unfolding tables
 enough-a = passes-enough (only a) both byA (λ m. elim m [ ], tt) refl
 
 enough-b : Enough (only b) both byB
-unfolding tooFew count filter signed same
+unfolding tables
 enough-b = passes-enough (only b) both byB (λ m. elim m [ ], tt) refl
 
 fresh : (start : ℤ) → expired (pos 1893456000) start ≡ false → Fresh (rootAt 4 b a b) plan start
@@ -377,7 +377,7 @@ fresh start e =
     record { ofRoot = f; ofTimestamp = f; ofSnapshot = f; ofTargets = f }
 
 honest-end : Honest theEnd (rootAt 3 b a b) plan
-unfolding offered lastRoot expired otherLength otherDigest same targetsEntry listedAs fallen lost
+unfolding tables offered lastRoot
 honest-end =
     record {
       quietRoots = ((refused-idle root-again, tt), tt);

@@ -1,39 +1,21 @@
 -- Small files of the four roles, as texts, and what they say: computed by the reader of the rules.
 use mathlib.Core.Path.{_≡_, refl}
 use mathlib.Core.List.{List, [], _∷_, _++_}
-use mathlib.Core.Option.{none, some, bind}
+use mathlib.Core.Option.{none, some}
 use Prim.Native.Nat.{ℕ}
 use Prim.Native.String.{String}
 use lib.IntN.{pos}
-use Rattle.base.specs.Bytes.{Bytes, bytes, same, less}
-use Rattle.base.specs.Hex.{digitOf, allHex, isHex, undo}
-use Rattle.date.specs.Calendar.{fits, hasForm, dateOf, civilTime, timeOf, epoch, secondNumber, dayNumber, yearsBefore, firstMonths}
-use Rattle.json.specs.Lead.{leadOf}
-use Rattle.json.specs.Json.{put, putBytes}
-use Rattle.json.specs.Read as reader
-use Rattle.json.specs.Read.{read, kindOf, chars, digits, loop, body, member}
-use Rattle.json.specs.Fields as fields
-use Rattle.json.specs.Fields.{members, items, lookup, field, size, text, truth, keep, decimal, natural, between, number}
+use Rattle.base.specs.Bytes.{Bytes, bytes}
 use Rattle.rules.specs.Records.{Role, Listed, Named, Image, File, Read, says}
-use Rattle.rules.specs.Take.{must, inside, may, single, sole, each, eachNamed, word, unhex, hex, date, nameOf}
-use Rattle.rules.specs.Forms.{isIn, different, entry, entries, placeFrom, placeOf, envelope, version, knownSpec, fileOf, key, keys, role, root, sha256, listed, timestamp, named, names, snapshot, image, images, targets}
-use Rattle.rules.specs.Reading.{whole, parsed, judgedText, readWith, keyidsOf, known, spoken, inEnvelope, readAs, readRoot, readTimestamp, readSnapshot, readTargets}
+use Rattle.rules.proofs.Texts.{digits64, quoted, k, l, keyText, roleText}
+use Rattle.rules.proofs.Computing.{forms}
 use Rattle.rules.specs.State.{Root, Timestamp, Snapshot, filter, keepRole, keepRoot, keepTimestamp, keepSnapshot, kept, rootIn, timestampIn, snapshotIn, targetsIn}
 
 -- ## Texts
 
+-- the bytes of the keyids k and l, and a digest: text and bytes
 abbrev pub eight : Bytes → Bytes
 eight t = t ++ t ++ t ++ t ++ t ++ t ++ t ++ t
-
-abbrev pub quoted : Bytes → Bytes
-quoted t = bytes "\"" ++ t ++ bytes "\""
-
--- two keyids, which are their keys' public values too, and a digest: each as text and as bytes
-abbrev pub aText : Bytes
-aText = eight (bytes "0123abcd")
-
-abbrev pub bText : Bytes
-bText = eight (bytes "4567abcd")
 
 abbrev pub a : Bytes
 a = eight (0x01 ∷ 0x23 ∷ 0xab ∷ 0xcd ∷ [])
@@ -41,30 +23,30 @@ a = eight (0x01 ∷ 0x23 ∷ 0xab ∷ 0xcd ∷ [])
 abbrev pub b : Bytes
 b = eight (0x45 ∷ 0x67 ∷ 0xab ∷ 0xcd ∷ [])
 
+abbrev pub dText : Bytes
+dText = quoted (digits64 "07070707")
+
+abbrev pub d : Bytes
+d = eight (7 ∷ 7 ∷ 7 ∷ 7 ∷ [])
+
 -- a file with an entry of each key
 abbrev pub entryText : Bytes → Bytes
-entryText k = bytes "{\"keyid\":" ++ quoted k ++ bytes ",\"sig\":" ++ quoted (k ++ k) ++ bytes "}"
+entryText keyid = bytes "{\"keyid\":" ++ quoted keyid ++ bytes ",\"sig\":" ++ quoted (keyid ++ keyid) ++ bytes "}"
 
 abbrev pub fileText : Bytes → Bytes
 fileText body =
-    bytes "{\"signatures\":[" ++ entryText aText ++ bytes "," ++ entryText bText ++ bytes "],\"signed\":{" ++ body ++ bytes "}}"
+    bytes "{\"signatures\":[" ++ entryText k ++ bytes "," ++ entryText l ++ bytes "],\"signed\":{" ++ body ++ bytes "}}"
 
-abbrev pub keyText : Bytes → Bytes
-keyText k = quoted k ++ bytes ":{\"keytype\":\"ed25519\",\"keyval\":{\"public\":" ++ quoted k ++ bytes "},\"scheme\":\"ed25519\"}"
-
-abbrev pub roleText : Bytes → Bytes
-roleText k = bytes "{\"keyids\":[" ++ quoted k ++ bytes "],\"threshold\":1}"
-
--- a root by its version and the keys of its timestamp, snapshot and targets roles; key a is its own
+-- a root by its version and the keys of its timestamp, snapshot and targets roles; its own is k
 abbrev pub rootText : String → Bytes → Bytes → Bytes → Bytes
 rootText version timestampKey snapshotKey targetsKey =
     fileText
     (bytes "\"_type\":\"root\",\"consistent_snapshot\":false,\"expires\":\"2030-01-01T00:00:00Z\",\"keys\":{"
-    ++ keyText aText ++ bytes "," ++ keyText bText
-    ++ bytes "},\"roles\":{\"root\":" ++ roleText aText
-    ++ bytes ",\"snapshot\":" ++ roleText snapshotKey
-    ++ bytes ",\"targets\":" ++ roleText targetsKey
-    ++ bytes ",\"timestamp\":" ++ roleText timestampKey
+    ++ keyText k k ++ bytes "," ++ keyText l l
+    ++ bytes "},\"roles\":{\"root\":" ++ roleText (quoted k) "1"
+    ++ bytes ",\"snapshot\":" ++ roleText (quoted snapshotKey) "1"
+    ++ bytes ",\"targets\":" ++ roleText (quoted targetsKey) "1"
+    ++ bytes ",\"timestamp\":" ++ roleText (quoted timestampKey) "1"
     ++ bytes "},\"spec_version\":\"1\",\"version\":" ++ bytes version)
 
 abbrev pub only : Bytes → Role
@@ -85,12 +67,6 @@ rootAt version timestampKey snapshotKey targetsKey =
 -- what a file lists: a version alone, or with length and digest
 abbrev pub versionText : String → Bytes
 versionText version = bytes "{\"version\":" ++ bytes version ++ bytes "}"
-
-abbrev pub dText : Bytes
-dText = quoted (eight (bytes "07070707"))
-
-abbrev pub d : Bytes
-d = eight (7 ∷ 7 ∷ 7 ∷ 7 ∷ [])
 
 abbrev pub fullText : String → String → Bytes
 fullText length version =
@@ -174,10 +150,10 @@ abbrev pub Says : {A : Type 0} → (Bytes → Read A) → Bytes → A → Type 0
 Says reading text file = reading text ≡ says file (a ∷ b ∷ [])
 
 pub record Readings : Type 0 where
-  pub root1 : Says rootIn (rootText "1" aText aText aText) (rootAt 1 a a a)
-  pub root2 : Says rootIn (rootText "2" aText aText bText) (rootAt 2 a a b)
-  pub root3 : Says rootIn (rootText "3" bText aText bText) (rootAt 3 b a b)
-  pub root4 : Says rootIn (rootText "4" bText aText bText) (rootAt 4 b a b)
+  pub root1 : Says rootIn (rootText "1" k k k) (rootAt 1 a a a)
+  pub root2 : Says rootIn (rootText "2" k k l) (rootAt 2 a a b)
+  pub root3 : Says rootIn (rootText "3" l k l) (rootAt 3 b a b)
+  pub root4 : Says rootIn (rootText "4" l k l) (rootAt 4 b a b)
   pub timestamp5 : Says timestampIn (timestampText "5" (versionText "7")) (timestampAt 5 (versionOnly 7))
   pub timestamp6 : Says timestampIn (timestampText "6" (versionText "7")) (timestampAt 6 (versionOnly 7))
   pub timestamp1 : Says timestampIn (timestampText "1" (versionText "2")) (timestampAt 1 (versionOnly 2))
@@ -192,7 +168,7 @@ pub record Readings : Type 0 where
   pub targets2 : Says targetsIn (targetsText "2" imageText) (targetsAt 2 (anImage ∷ []))
 
 pub readings : Readings
-unfolding same less digitOf allHex isHex undo fits hasForm dateOf civilTime timeOf epoch secondNumber dayNumber yearsBefore firstMonths leadOf put putBytes read kindOf chars digits loop body member reader.number members items lookup field size fields.count text truth keep decimal natural between number bind must inside may single sole each eachNamed word unhex hex date nameOf isIn different entry entries placeFrom placeOf envelope version knownSpec fileOf key keys role root sha256 listed timestamp named names snapshot image images targets whole parsed judgedText readWith keyidsOf known spoken inEnvelope readAs readRoot readTimestamp readSnapshot readTargets filter keepRole keepRoot keepTimestamp keepSnapshot kept rootIn timestampIn snapshotIn targetsIn
+unfolding forms filter keepRole keepRoot keepTimestamp keepSnapshot kept rootIn timestampIn snapshotIn targetsIn
 readings =
     record {
       root1 = refl;

@@ -6,16 +6,16 @@ use mathlib.Core.Bool.{true}
 use mathlib.Core.Option.{some}
 use mathlib.Core.List.{List}
 use Prim.Native.Nat.{_+_, _≤_, _<_}
+use lib.IntN.{ℤ}
 use lib.ListN.{length}
 use Rattle.base.specs.Bytes.{Bytes}
 use Rattle.base.specs.Hex.{isHex, undo}
 use Rattle.rules.specs.Limits.{maxPath, keySize}
 use Rattle.rules.specs.Records.{Key, Image, File, says}
-use lib.IntN.{ℤ}
 use Rattle.rules.specs.State.{Root, Timestamp, Snapshot, Targets, State, blank, rootIn, timestampIn, snapshotIn, targetsIn, keepTargets, Install, RootOffer, TimestampOffer, FileOffer, Query, Call, newCycle, newRoot, newTimestamp, newSnapshot, newTargets, find, askKey, askState}
 use Rattle.rules.specs.Conditions.{targetsEntry, imageOf, keyOf}
 use Rattle.rules.specs.Steps.{installAnswer, installed, rootAlone, answer, next, withStart, withRoot, withTimestamp, withSnapshot, withTargets}
-use Rattle.rules.specs.Asked.{nothingFound, found, zeros, publicKey}
+use Rattle.rules.specs.Asked.{Found, nothingFound, found, zeros, publicKey, imageAnswer}
 use Rattle.rules.specs.Words.{GoodRow, GoodDigest, Enough, Expired, Keeps, Matches}
 
 -- ## Records that a step needs or leans on
@@ -117,6 +117,13 @@ pub record KeyGood (s : State) (k : Bytes) (x : Key) : Type 0 where
   pub hex : isHex keySize k ≡ true
   pub listed : keyOf (undo k) (root .keys) ≡ some x
 
+-- given no state: "the found length and digest against the fetched ones"
+pub record ImageGood (listed fetched : Found) : Type 0 where
+  pub listedDigest : GoodDigest (listed .digest)
+  pub fetchedDigest : GoodDigest (fetched .digest)
+  pub sameLength : listed .length ≡ fetched .length
+  pub sameDigest : listed .digest ≡ fetched .digest
+
 -- ## The claim
 
 -- The held root was read from a file, so that no role names a key twice. It is so of every state of a history.
@@ -129,6 +136,11 @@ pub record InstallExactly (o : Install) : Type 0 where
   pub installAfter : (r : Root) → InstallGood o r → installed o ≡ rootAlone r (o .start)
   pub installRefused : ¬ (installAnswer o ≡ 0) → installed o ≡ blank
 
+-- of image, which is given none either
+abbrev pub ImageExactly : Found → Found → Type 0
+ImageExactly listed fetched = (imageAnswer listed fetched ≡ 0) ↔ ImageGood listed fetched
+
+-- of the calls that are given a state
 pub record Demand2 (s : State) : Type 0 where
   pub root : (o : RootOffer) → (answer s (newRoot o) ≡ 0) ↔ ((r : Root) × RootGood s o r)
   pub rootAfter : (o : RootOffer) (r : Root) (g : RootGood s o r) → next s (newRoot o) ≡ withRoot s (g .held) r
