@@ -1,4 +1,4 @@
--- The dates of 01 that are marked (P), in one table, and the one statement that the definition gives each its answer.
+-- Dates at the ends of the range, about 1970 and about leap days. (The cases of 01 itself stand in the crate rules.)
 use mathlib.Core.Path.{_≡_, refl}
 use mathlib.Core.List.{List, [], _∷_, map}
 use mathlib.Core.Option.{Option, none, some}
@@ -13,12 +13,13 @@ pub record Example : Type 0 where
 
 abbrev pub table : List Example
 table =
-    record { text = "1985-10-21T01:21:00Z"; meaning = some (pos 498705660) }
-    ∷ record { text = "2030-01-01T00:00:00Z"; meaning = some (pos 1893456000) }
-    ∷ record { text = "1969-12-31T23:59:59Z"; meaning = some (negℤ (pos 1)) }
-    ∷ record { text = "2000-02-29T00:00:00Z"; meaning = some (pos 951782400) }
-    ∷ record { text = "1900-03-01T00:00:00Z"; meaning = some (negℤ (pos 2203891200)) }
-    ∷ record { text = "1900-02-29T00:00:00Z"; meaning = none }
+    record { text = "1970-01-01T00:00:00Z"; meaning = some (pos 0) }
+    ∷ record { text = "1969-12-31T00:00:00Z"; meaning = some (negℤ (pos 86400)) }
+    ∷ record { text = "0000-01-01T00:00:00Z"; meaning = some (negℤ (pos 62167219200)) }
+    ∷ record { text = "9999-12-31T23:59:59Z"; meaning = some (pos 253402300799) }
+    ∷ record { text = "2024-02-29T12:00:00Z"; meaning = some (pos 1709208000) }
+    ∷ record { text = "2100-02-29T00:00:00Z"; meaning = none }
+    ∷ record { text = "2000-02-30T00:00:00Z"; meaning = none }
     ∷ []
 
 pub examples : map (λ (e : Example). dateOf (bytes (e .text))) table ≡ map (λ (e : Example). e .meaning) table
