@@ -1,8 +1,9 @@
 // Plays a script of calls, one to a line, and writes one line for each: docs/REPLAY.md.
-// So far it knows `text`. It works line by line in a bounded buffer.
+// So far it knows `text` and `date`. It works line by line in a bounded buffer.
 ghost use mathlib.Core.Path.{_≡_};
 ghost use Prim.Native.Nat.{_+_, _≤_};
 ghost use lib.ListN.{length};
+use date::Date;
 use libc::STDIN_FILENO;
 use libc::STDOUT_FILENO;
 
@@ -26,6 +27,61 @@ fn report(line: u64, reason: &[u8]) {
     put(b" ");
     put(reason);
     put(b"\n");
+}
+
+// Puts text behind the first `at` bytes of a line, as far as there is room; where it ends.
+fn append(line: &mut [u8], at: usize, text: &[u8]) -> usize
+    requires { ⌜ at ≤ length (now line) ⌝ }
+    ensures { λ r. ⌜ r ≤ length (now (line .exit)) ⌝ }
+{
+    let mut end = at;
+    let mut i = 0;
+    while i < text.len() {
+        if line.len() <= end {
+            return end;
+        }
+        line[end] = text[i];
+        end += 1;
+        i += 1;
+    }
+    end
+}
+
+// How far a count is from zero.
+fn magnitude(n: i64) -> u64 {
+    if n < 0 {
+        let m = -1 - n;
+        return (m as u64) + 1;
+    }
+    n as u64
+}
+
+fn sign(n: i64, line: &mut [u8], at: usize) -> usize
+    requires { ⌜ at ≤ length (now line) ⌝ }
+    ensures { λ r. ⌜ r ≤ length (now (line .exit)) ⌝ }
+{
+    if n < 0 {
+        return append(line, at, b"-");
+    }
+    at
+}
+
+// The answer of a date, as a line.
+fn date_line(seconds: i64, line: &mut [u8]) -> usize
+    ensures { λ r. ⌜ r ≤ length (now (line .exit)) ⌝ }
+{
+    let mut digits = [0u8; 20];
+    let n = io::decimal(magnitude(seconds), &mut digits);
+    let a = append(line, 0, b"date ");
+    let b = sign(seconds, line, a);
+    let c = append(line, b, &digits[..n]);
+    append(line, c, b"\n")
+}
+
+fn put_date(seconds: i64) {
+    let mut line = [0u8; 32];
+    let n = date_line(seconds, &mut line);
+    put(&line[..n]);
 }
 
 // ---- Arguments
@@ -116,6 +172,38 @@ fn play_text(text: &[u8]) {
     }
 }
 
+fn play_date(text: &[u8]) {
+    match date::parse(text) {
+        Date::At(t) => put_date(t.seconds),
+        Date::Bad => put(b"date bad\n"),
+    }
+}
+
+// The calls that are given bytes alone.
+enum Call {
+    Unknown,
+    Text,
+    Date,
+}
+
+fn call_named(name: &[u8]) -> Call {
+    if base::same(name, b"text") {
+        return Call::Text;
+    }
+    if base::same(name, b"date") {
+        return Call::Date;
+    }
+    Call::Unknown
+}
+
+fn play_call(call: Call, bytes: &[u8], number: u64) {
+    match call {
+        Call::Unknown => report(number, b"unknown call"),
+        Call::Text => play_text(bytes),
+        Call::Date => play_date(bytes),
+    }
+}
+
 // ---- Lines
 
 // The first place from `from` up to `to` that holds b, or `to`.
@@ -133,31 +221,23 @@ fn place_of(s: &[u8], from: usize, to: usize, b: u8) -> usize
     i
 }
 
-fn call(name: &[u8], word: &[u8], number: u64, bytes: &mut [u8]) {
-    if !base::same(name, b"text") {
-        report(number, b"unknown call");
-        return;
-    }
+fn call_with(call: Call, word: &[u8], number: u64, bytes: &mut [u8]) {
     match bytes_in(word, bytes) {
         Bytes::Bad => report(number, b"bad bytes"),
         Bytes::Unopened => report(number, b"cannot open the file"),
         Bytes::TooMany => report(number, b"too many bytes"),
         Bytes::Are(n) => {
             if n <= bytes.len() {
-                play_text(&bytes[..n]);
+                play_call(call, &bytes[..n], number);
             }
         }
     }
 }
 
-fn play(line: &[u8], number: u64, bytes: &mut [u8]) {
-    if line.len() == 0 {
-        return;
-    }
-    if line[0] == b'#' {
-        return;
-    }
-    let e = place_of(line, 0, line.len(), b' ');
+// The call's one argument is the word behind the space at e.
+fn play_words(call: Call, line: &[u8], e: usize, number: u64, bytes: &mut [u8])
+    requires { ⌜ e ≤ length (now line) ⌝ }
+{
     if e == line.len() {
         report(number, b"wrong number of words");
         return;
@@ -168,7 +248,22 @@ fn play(line: &[u8], number: u64, bytes: &mut [u8]) {
         report(number, b"wrong number of words");
         return;
     }
-    call(&line[..e], &line[a..z], number, bytes);
+    call_with(call, &line[a..z], number, bytes);
+}
+
+fn play(line: &[u8], number: u64, bytes: &mut [u8]) {
+    if line.len() == 0 {
+        return;
+    }
+    if line[0] == b'#' {
+        return;
+    }
+    let e = place_of(line, 0, line.len(), b' ');
+    match call_named(&line[..e]) {
+        Call::Unknown => report(number, b"unknown call"),
+        Call::Text => play_words(Call::Text, line, e, number, bytes),
+        Call::Date => play_words(Call::Date, line, e, number, bytes),
+    }
 }
 
 // ---- The script, line by line
