@@ -1,0 +1,148 @@
+-- Brackets at a place of the text, and the elements of an array one after the other.
+use mathlib.Core.Path.{_≡_, refl, ap, _∙_}
+use mathlib.Core.List.{_∷_}
+use mathlib.Core.Bool.{true, false}
+use Prim.Native.Nat.{ℕ, suc, _≤_, _<_, _+_, _-_}
+use native.Mathlib.Omega.{arith}
+use lib.Dec.{eqb}
+use lib.ListN.{length, drop, getD}
+use borrow.Author.Tests.{eq-eqb, ne-eqb}
+use Rattle.base.specs.Bytes.{Bytes, isDigit}
+use Rattle.base.proofs.PlaceLaws.{at-cons, at-end}
+use Rattle.json.specs.Json.{Json, jnull, jtrue, jfalse, num, str, arr, obj, Items, inil, icons, put, putMoreItems, Valid, ValidItems, maxDepth}
+use Rattle.json.specs.Read.{NoDigit}
+use Rattle.json.specs.Fields.{items}
+use Rattle.json.proofs.Puts.{put-arr, items-nil, items-cons, more-items-nil, more-items-cons}
+use Rattle.lookup.specs.Place.{Stands, EndsAt}
+use Rattle.lookup.specs.Walk.{closes, opens, Opens, ItemsLeft, items-end, items-at, ItemsOf, ElementAfter, Follows}
+use Rattle.lookup.specs.declared.Found.{Found}
+use Rattle.lookup.specs.declared.Found.the-variants as found
+use Rattle.lookup.specs.declared.Element.{Element}
+use Rattle.lookup.specs.declared.Element.the-variants.{NoArray, End, At}
+use Rattle.lookup.proofs.Deeper.{deeper}
+use Rattle.lookup.proofs.FirstByte.{beginsWith, begins, not-closing}
+use Rattle.lookup.proofs.StandsLaws.{there, front, rest-at, end-is}
+
+-- ## Brackets
+
+module _ (close j : ℕ) where
+  pub closes-end : (t : Bytes) → closes close j (close ∷ t) ≡ End
+  unfolding closes
+  closes-end t = rw (eq-eqb close close refl)
+
+  pub closes-on : (b : ℕ) (t : Bytes) → eqb b close ≡ false → closes close j (b ∷ t) ≡ At j
+  unfolding closes
+  closes-on b t e = rw e
+
+  module _ (s : Bytes) (i : ℕ) where
+    pub close-cut : length s ≤ i → closes close j (drop i s) ≡ NoArray
+    unfolding closes
+    close-cut h = rw (at-end s i h)
+
+    pub close-here : i < length s → getD s i 0 ≡ close → closes close j (drop i s) ≡ End
+    close-here h e = rw (at-cons s i h, e) (closes-end (drop (i + 1) s))
+
+    pub close-later : i < length s → (getD s i 0 ≡ close → ⊥) → closes close j (drop i s) ≡ At j
+    close-later h e = rw (at-cons s i h) (closes-on (getD s i 0) (drop (i + 1) s) (ne-eqb _ _ e))
+
+module _ (start close p : ℕ) where
+  pub opens-on : (t : Bytes) → opens start close p (start ∷ t) ≡ closes close (p + 1) t
+  unfolding opens
+  opens-on t = rw (eq-eqb start start refl)
+
+  pub opens-not : (b : ℕ) (t : Bytes) → eqb b start ≡ false → opens start close p (b ∷ t) ≡ NoArray
+  unfolding opens
+  opens-not b t e = rw e
+
+  module _ (s : Bytes) where
+    pub open-cut : length s ≤ p → opens start close p (drop p s) ≡ NoArray
+    unfolding opens
+    open-cut h = rw (at-end s p h)
+
+    pub open-not : p < length s → (getD s p 0 ≡ start → ⊥) → opens start close p (drop p s) ≡ NoArray
+    open-not h e = rw (at-cons s p h) (opens-not (getD s p 0) (drop (p + 1) s) (ne-eqb _ _ e))
+
+    pub open-here : p < length s → getD s p 0 ≡ start → opens start close p (drop p s) ≡ closes close (p + 1) (drop (p + 1) s)
+    open-here h e = rw (at-cons s p h, e) (opens-on (drop (p + 1) s))
+
+-- a value that does not begin with the opening byte
+pub opens-no : (s : Bytes) (p : ℕ) (v : Json) → Stands s p v → (start close : ℕ) → isDigit start ≡ false → beginsWith start v ≡ false → opens start close p (drop p s) ≡ NoArray
+opens-no s p v h start close n e =
+    let b = front s p v h in
+    ap (λ (t : Bytes). opens start close p t) (b .is) ∙ opens-not start close p (b .first) (b .others) (b .with start n ∙ e)
+
+-- what follows a value, by where it ends
+pub follows-by : (s : Bytes) (p close : ℕ) {f : Found} → EndsAt s p f → (e : ℕ) → f ≡ found.At e → (r : Element) → r ≡ closes close (e + 1) (drop e s)
+    → (v : Json) (h : Stands s p v) → r ≡ closes close (length s - length (h .rest) + 1) (h .rest)
+follows-by s p close w e q r k v h =
+    k ∙ ap (λ (n : ℕ). closes close (n + 1) (drop n s)) (end-is s p v h w e q)
+    ∙ ap (λ (t : Bytes). closes close (length s - length (h .rest) + 1) t) (rest-at s p v h)
+
+-- ## Elements
+
+-- an element that was found
+pub element-after : (s : Bytes) (p : ℕ) (r : Element) → ElementAfter s p r → (i : ℕ) → r ≡ At i → (p < i) × (i ≤ length s)
+element-after s p r a i q = rw q at a
+
+-- what is left of the text, for a loop's measure
+abbrev pub ahead : Bytes → Element → ℕ
+ahead s NoArray = 0
+ahead s End = 0
+ahead s (At i) = suc (length s - i)
+
+pub ahead-less : (s : Bytes) (e : Element) (i : ℕ) → e ≡ At i → (r : Element) → ElementAfter s i r → ahead s r < ahead s e
+ahead-less s e i q r a = rw q (go r a)
+  where
+    go : (r : Element) → ElementAfter s i r → ahead s r < suc (length s - i)
+    go NoArray a = omega arith
+    go End a = omega arith
+    go (At k) a = let x = a .0 in let y = a .1 in omega arith
+
+pub more-items-free : (vs : Items) (r : Bytes) → NoDigit (putMoreItems vs (93 ∷ r))
+more-items-free inil r = rw more-items-nil refl
+more-items-free (icons v vs) r = rw more-items-cons refl
+
+item-before : (s : Bytes) (i : ℕ) (v : Json) (vs : Items) (rest : Bytes) → drop i s ≡ put v (putMoreItems vs (93 ∷ rest)) → ValidItems (icons v vs) maxDepth → Stands s i v
+unfolding Valid
+item-before s i v vs rest t g = record { rest = putMoreItems vs (93 ∷ rest); text = t; free = more-items-free vs rest; valid = g .0 }
+
+-- an element that is the first of those left stands at its place
+pub item-stands : {s : Bytes} {i : ℕ} {v : Json} {vs : Items} → ItemsLeft s (At i) (icons v vs) → Stands s i v
+item-stands {s} {i} {v} {vs} (items-at rest t g) = item-before s i v vs rest t g
+
+module _ (s : Bytes) (p : ℕ) where
+  pub first-items : {r : Element} → Opens s p 91 93 r → (v : Json) → Stands s p v → ItemsOf s r (items v)
+  unfolding items Valid
+  first-items o jnull h = o .is ∙ opens-no s p jnull h 91 93 refl refl
+  first-items o jtrue h = o .is ∙ opens-no s p jtrue h 91 93 refl refl
+  first-items o jfalse h = o .is ∙ opens-no s p jfalse h 91 93 refl refl
+  first-items o (num true ds) h = o .is ∙ opens-no s p (num true ds) h 91 93 refl refl
+  first-items o (num false ds) h = o .is ∙ opens-no s p (num false ds) h 91 93 refl refl
+  first-items o (str b) h = o .is ∙ opens-no s p (str b) h 91 93 refl refl
+  first-items o (obj ms) h = o .is ∙ opens-no s p (obj ms) h 91 93 refl refl
+  first-items {r} o (arr inil) h =
+      let k : r ≡ End = o .is ∙ ap (λ (x : Bytes). opens 91 93 p x) (h .text ∙ put-arr inil _) ∙ opens-on 91 93 p _ ∙ rw items-nil (closes-end 93 (p + 1) _) in
+      rw k items-end
+  first-items {r} o (arr (icons u us)) h =
+      let g : ValidItems (icons u us) maxDepth = deeper (arr (icons u us)) maxDepth (h .valid) in
+      let t = putMoreItems us (93 ∷ h .rest) in
+      let b = begins u maxDepth t (put u t) (g .0) refl in
+      let e : drop p s ≡ 91 ∷ put u t = h .text ∙ put-arr (icons u us) _ ∙ ap (λ (x : Bytes). 91 ∷ x) (items-cons u us _) in
+      let k : r ≡ At (p + 1) = o .is ∙ ap (λ (x : Bytes). opens 91 93 p x) e ∙ opens-on 91 93 p _ ∙ ap (λ (x : Bytes). closes 93 (p + 1) x) (b .is) ∙ closes-on 93 (p + 1) _ _ (b .with 93 refl ∙ not-closing u) in
+      rw k (items-at (h .rest) (there s p 91 _ e .2) g)
+
+  pub next-items : {r : Element} → Follows s p 93 r → (v : Json) (vs : Items) → ItemsLeft s (At p) (icons v vs) → ItemsLeft s r vs
+  unfolding Valid item-before
+  next-items {r} w v vs l = go vs l
+    where
+      go : (us : Items) → ItemsLeft s (At p) (icons v us) → ItemsLeft s r us
+      go inil (items-at rest t g) =
+          let h = item-before s p v inil rest t g in
+          let k : r ≡ End = w .means v h ∙ ap (λ (x : Bytes). closes 93 (length s - length (h .rest) + 1) x) (more-items-nil _) ∙ closes-end 93 _ _ in
+          rw k items-end
+      go (icons u us) (items-at rest t g) =
+          let h = item-before s p v (icons u us) rest t g in
+          let e = length s - length (h .rest) in
+          let m = more-items-cons u us (93 ∷ rest) in
+          let k : r ≡ At (e + 1) = w .means v h ∙ ap (λ (x : Bytes). closes 93 (e + 1) x) m ∙ closes-on 93 (e + 1) 44 _ refl in
+          rw k (items-at rest (there s e 44 _ (rest-at s p v h ∙ m) .2) (g .1))

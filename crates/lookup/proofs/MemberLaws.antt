@@ -1,0 +1,174 @@
+-- The members of an object one after the other.
+use mathlib.Core.Path.{_≡_, refl, sym, ap, _∙_}
+use mathlib.Core.List.{_∷_}
+use mathlib.Core.Option.{Option, none, some}
+use mathlib.Core.Bool.{true, false}
+use Prim.Native.Nat.{ℕ, suc, _≤_, _<_, _+_, _-_}
+use native.Mathlib.Omega.{arith}
+use lib.ListN.{length, drop, getD}
+use Rattle.base.specs.Bytes.{Bytes}
+use Rattle.json.specs.Json.{Json, jnull, jtrue, jfalse, num, str, arr, obj, Members, mnil, mcons, put, putStr, putBytes, putMoreMembers, Valid, ValidStr, ValidMembers, maxDepth}
+use Rattle.json.specs.Read.{Got, bad, got, endOf, also, read, readStr, kindOf, raw, NoDigit}
+use Rattle.json.specs.Fields.{members}
+use Rattle.json.specs.declared.Skip.the-variants as skip
+use Rattle.json.proofs.Puts.{put-str, put-obj, members-nil, members-cons, more-members-nil, more-members-cons}
+use Rattle.json.proofs.Complete.{complete}
+use Rattle.json.proofs.Rest.{located, chars-fits, refused}
+use Rattle.lookup.specs.Place.{Stands}
+use Rattle.lookup.specs.Walk.{closes, opens, Opens, Follows, MemberAt, MemberAfter, MembersLeft, members-end, members-at, MembersOf}
+use Rattle.lookup.specs.declared.Element.{Element}
+use Rattle.lookup.specs.declared.Element.the-variants as element
+use Rattle.lookup.specs.declared.Member.{Member}
+use Rattle.lookup.specs.declared.Member.the-variants as member
+use Rattle.lookup.proofs.Deeper.{deeper}
+use Rattle.lookup.proofs.StandsLaws.{there, rest-at}
+use Rattle.lookup.proofs.ItemLaws.{closes-end, closes-on, opens-on, opens-no}
+use Rattle.lookup.proofs.StringLaws.{raw-bytes}
+
+-- ## One member
+
+-- a name is read up to its closing quote
+name-read : (n r : Bytes) → ValidStr n → NoDigit r → readStr (putBytes n (34 ∷ r)) ≡ got n r
+unfolding Valid read kindOf
+name-read n r g f =
+    let k : also str (readStr (putBytes n (34 ∷ r))) ≡ got (str n) r = rw put-str at (complete (str n) 0 r g f) in
+    go (readStr (putBytes n (34 ∷ r))) k
+  where
+    go : (x : Got Bytes) → also str x ≡ got (str n) r → x ≡ got n r
+    go bad e = let z : _≡_ {A = ℕ} 0 1 = cc in absurd (omega arith)
+    go (got a q) e = cc
+
+-- the text of the members from one on
+abbrev MemberText : Bytes → Json → Members → Bytes → Bytes
+MemberText n v ms rest = putStr n (58 ∷ put v (putMoreMembers ms (125 ∷ rest)))
+
+module _ (s : Bytes) (i : ℕ) (n : Bytes) (v : Json) (ms : Members) (rest : Bytes) (t : drop i s ≡ MemberText n v ms rest) (g : ValidMembers (mcons n v ms) maxDepth) where
+  pub quote-cut : length s ≤ i → ⊥
+  quote-cut l = let k = there s i 34 _ t .0 in omega arith
+
+  named : readStr (drop (i + 1) s) ≡ got n (58 ∷ put v (putMoreMembers ms (125 ∷ rest)))
+  unfolding Valid
+  named = ap (λ (x : Bytes). readStr x) (there s i 34 _ t .2) ∙ name-read n _ (g .0) refl
+
+  pub name-found : endOf (length s) (readStr (drop (i + 1) s)) ≡ skip.No → ⊥
+  name-found q =
+      let k : bad ≡ got n (58 ∷ put v (putMoreMembers ms (125 ∷ rest))) = sym (refused (length s) (readStr (drop (i + 1) s)) q) ∙ named in
+      let z : _≡_ {A = ℕ} 0 1 = cc in omega arith
+
+  module _ (e : ℕ) (q : endOf (length s) (readStr (drop (i + 1) s)) ≡ skip.End e) where
+    colon : (e < length s) × (getD s e 0 ≡ 58) × (drop (e + 1) s ≡ put v (putMoreMembers ms (125 ∷ rest)))
+    colon =
+        let l = located s (i + 1) e (chars-fits (drop (i + 1) s) 0 0 0) q in
+        let k : got (l .value) (drop e s) ≡ got n (58 ∷ put v (putMoreMembers ms (125 ∷ rest))) = sym (l .is) ∙ named in
+        there s e 58 _ (cc)
+
+    pub colon-cut : length s ≤ e → ⊥
+    colon-cut l = let k = colon .0 in omega arith
+
+    pub member-there : MembersLeft s (member.At (i + 1) (e + 1)) (mcons n v ms)
+    member-there = members-at rest (there s i 34 _ t .2 ∙ ap (λ (x : Bytes). putBytes n (34 ∷ 58 ∷ x)) (sym (colon .2))) (colon .2) g
+
+pub name-after : (s : Bytes) (i e : ℕ) → endOf (length s) (readStr (drop (i + 1) s)) ≡ skip.End e → e < length s → MemberAfter s i (member.At (i + 1) (e + 1))
+name-after s i e q h = let k = located s (i + 1) e (chars-fits (drop (i + 1) s) 0 0 0) q .after in (omega arith, omega arith, omega arith)
+
+-- a member that was found
+pub member-after : (s : Bytes) (p : ℕ) (r : Member) → MemberAfter s p r → (i j : ℕ) → r ≡ member.At i j → (p < i) × (i < j) × (j ≤ length s)
+member-after s p r a i j q = rw q at a
+
+-- what is left of the text, for a loop's measure
+abbrev pub ahead : Bytes → Member → ℕ
+ahead s member.NoObject = 0
+ahead s member.End = 0
+ahead s (member.At i j) = suc (length s - j)
+
+pub ahead-less : (s : Bytes) (m : Member) (i j : ℕ) → m ≡ member.At i j → (r : Member) → MemberAfter s j r → ahead s r < ahead s m
+ahead-less s m i j q r a = rw q (go r a)
+  where
+    go : (r : Member) → MemberAfter s j r → ahead s r < suc (length s - j)
+    go member.NoObject a = omega arith
+    go member.End a = omega arith
+    go (member.At n v) a = let x = a .0 in let y = a .1 in let z = a .2 in omega arith
+
+-- what lies after i lies after a place before i
+pub after-later : (s : Bytes) (p i : ℕ) → p < i → (r : Member) → MemberAfter s i r → MemberAfter s p r
+after-later s p i h member.NoObject a = tt
+after-later s p i h member.End a = tt
+after-later s p i h (member.At n v) a = let z = a .0 in (omega arith, a .1, a .2)
+
+-- ## Members in order
+
+pub more-members-free : (ms : Members) (r : Bytes) → NoDigit (putMoreMembers ms (125 ∷ r))
+more-members-free mnil r = rw more-members-nil refl
+more-members-free (mcons n v ms) r = rw more-members-cons refl
+
+member-before : (s : Bytes) (j : ℕ) (n : Bytes) (v : Json) (ms : Members) (rest : Bytes) → drop j s ≡ put v (putMoreMembers ms (125 ∷ rest)) → ValidMembers (mcons n v ms) maxDepth → Stands s j v
+unfolding Valid
+member-before s j n v ms rest t g = record { rest = putMoreMembers ms (125 ∷ rest); text = t; free = more-members-free ms rest; valid = g .1 }
+
+-- a member that is the first of those left: its value stands at its place, and its name is read at its own
+module _ {s : Bytes} {i j : ℕ} {n : Bytes} {v : Json} {ms : Members} where
+  pub member-stands : MembersLeft s (member.At i j) (mcons n v ms) → Stands s j v
+  member-stands (members-at rest t u g) = member-before s j n v ms rest u g
+
+  pub member-name : MembersLeft s (member.At i j) (mcons n v ms) → raw (drop i s) ≡ n
+  member-name (members-at rest t u g) = ap raw t ∙ raw-bytes n _
+
+-- what stands past a bracket or a comma
+data MembersOpen (s : Bytes) : Element → Option Members → Type 0 where
+  open-none : MembersOpen s element.NoArray none
+  open-end : MembersOpen s element.End (some mnil)
+  open-at : {i : ℕ} {n : Bytes} {v : Json} {ms : Members} (rest : Bytes) → drop i s ≡ MemberText n v ms rest → ValidMembers (mcons n v ms) maxDepth
+      → MembersOpen s (element.At i) (some (mcons n v ms))
+
+-- what the program makes of it
+pub data MemberBy (s : Bytes) : Element → Member → Type 0 where
+  by-none : MemberBy s element.NoArray member.NoObject
+  by-end : MemberBy s element.End member.End
+  by-at : {i : ℕ} {r : Member} → MemberAt s i r → MemberBy s (element.At i) r
+
+members-by : {s : Bytes} {r : Member} {e : Element} {o : Option Members} → MembersOpen s e o → MemberBy s e r → MembersOf s r o
+members-by open-none by-none = refl
+members-by open-end by-end = members-end
+members-by (open-at {n = n} {v = v} {ms = ms} rest t g) (by-at m) = m .means n v ms rest t g
+
+module _ (s : Bytes) (p : ℕ) where
+  first-members : {e : Element} → Opens s p 123 125 e → (v : Json) → Stands s p v → MembersOpen s e (members v)
+  unfolding members Valid
+  first-members o jnull h = rw (o .is ∙ opens-no s p jnull h 123 125 refl refl) open-none
+  first-members o jtrue h = rw (o .is ∙ opens-no s p jtrue h 123 125 refl refl) open-none
+  first-members o jfalse h = rw (o .is ∙ opens-no s p jfalse h 123 125 refl refl) open-none
+  first-members o (num true ds) h = rw (o .is ∙ opens-no s p (num true ds) h 123 125 refl refl) open-none
+  first-members o (num false ds) h = rw (o .is ∙ opens-no s p (num false ds) h 123 125 refl refl) open-none
+  first-members o (str b) h = rw (o .is ∙ opens-no s p (str b) h 123 125 refl refl) open-none
+  first-members o (arr xs) h = rw (o .is ∙ opens-no s p (arr xs) h 123 125 refl refl) open-none
+  first-members {e} o (obj mnil) h =
+      let k : e ≡ element.End = o .is ∙ ap (λ (x : Bytes). opens 123 125 p x) (h .text ∙ put-obj mnil _) ∙ opens-on 123 125 p _ ∙ rw members-nil (closes-end 125 (p + 1) _) in
+      rw k open-end
+  first-members {e} o (obj (mcons n u ms)) h =
+      let g : ValidMembers (mcons n u ms) maxDepth = deeper (obj (mcons n u ms)) maxDepth (h .valid) in
+      let q : drop p s ≡ 123 ∷ MemberText n u ms (h .rest) = h .text ∙ put-obj (mcons n u ms) _ ∙ ap (λ (x : Bytes). 123 ∷ x) (members-cons n u ms _) in
+      let k : e ≡ element.At (p + 1) = o .is ∙ ap (λ (x : Bytes). opens 123 125 p x) q ∙ opens-on 123 125 p _ ∙ closes-on 125 (p + 1) 34 _ refl in
+      rw k (open-at (h .rest) (there s p 123 _ q .2) g)
+
+  next-members : {r : Element} → Follows s p 125 r → (i : ℕ) (n : Bytes) (v : Json) (ms : Members) → MembersLeft s (member.At i p) (mcons n v ms) → MembersOpen s r (some ms)
+  unfolding Valid member-before
+  next-members {r} w i n v ms l = go ms l
+    where
+      go : (us : Members) → MembersLeft s (member.At i p) (mcons n v us) → MembersOpen s r (some us)
+      go mnil (members-at rest t u g) =
+          let h = member-before s p n v mnil rest u g in
+          let k : r ≡ element.End = w .means v h ∙ ap (λ (x : Bytes). closes 125 (length s - length (h .rest) + 1) x) (more-members-nil _) ∙ closes-end 125 _ _ in
+          rw k open-end
+      go (mcons m x us) (members-at rest t u g) =
+          let h = member-before s p n v (mcons m x us) rest u g in
+          let e = length s - length (h .rest) in
+          let c = more-members-cons m x us (125 ∷ rest) in
+          let k : r ≡ element.At (e + 1) = w .means v h ∙ ap (λ (x : Bytes). closes 125 (e + 1) x) c ∙ closes-on 125 (e + 1) 44 _ refl in
+          rw k (open-at rest (there s e 44 _ (rest-at s p v h ∙ c) .2) (g .2 .1, g .2 .2, g .2 .3))
+
+  pub first-by : {e : Element} {r : Member} → Opens s p 123 125 e → MemberBy s e r → (v : Json) → Stands s p v → MembersOf s r (members v)
+  first-by o b v h = members-by (first-members o v h) b
+
+  pub next-by : {e : Element} {r : Member} → Follows s p 125 e → MemberBy s e r
+      → (i : ℕ) (n : Bytes) (v : Json) (ms : Members) → MembersLeft s (member.At i p) (mcons n v ms) → MembersLeft s r ms
+  next-by w b i n v ms l = members-by (next-members w i n v ms l) b

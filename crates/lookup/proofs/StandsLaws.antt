@@ -1,0 +1,85 @@
+-- A value that stands at a place: it lies in the text, and where it ends.
+use mathlib.Core.Path.{_≡_, refl, sym, ap, _∙_}
+use mathlib.Core.List.{[], _∷_, _++_}
+use mathlib.Core.Bool.{Bool, true, false}
+use Prim.Native.Nat.{ℕ, _≤_, _<_, _+_, _-_}
+use native.Mathlib.Omega.{arith}
+use lib.Dec.{leb}
+use lib.ListN.{length, drop, getD, length-append, length-drop}
+use lib.Seq.{drop-drop, drop-at}
+use borrow.Author.Tests.{leb-true, leb-false}
+use Rattle.base.specs.Bytes.{Bytes}
+use Rattle.base.proofs.PlaceLaws.{at-cons, at-end}
+use Rattle.json.specs.Json.{Json, put, Canonical, maxDepth}
+use Rattle.json.specs.Read.{Got, got, endOf, read}
+use Rattle.json.specs.declared.Skip.the-variants as skip
+use Rattle.json.proofs.Complete.{complete}
+use Rattle.json.proofs.Rest.{located, read-fits}
+use Rattle.json.proofs.Slices.{put-split}
+use Rattle.lookup.specs.Place.{Stands, PlaceAfter, EndsAt}
+use Rattle.lookup.specs.declared.Found.{Found}
+use Rattle.lookup.specs.declared.Found.the-variants.{Nothing, At}
+use Rattle.lookup.proofs.FirstByte.{Begins, begins}
+
+-- where a text goes on with a byte, it does
+pub there : (s : Bytes) (i x : ℕ) (t : Bytes) → drop i s ≡ x ∷ t → (i < length s) × (getD s i 0 ≡ x) × (drop (i + 1) s ≡ t)
+there s i x t e = go (leb (length s) i) refl
+  where
+    go : (b : Bool) → leb (length s) i ≡ b → (i < length s) × (getD s i 0 ≡ x) × (drop (i + 1) s ≡ t)
+    go true l =
+        let k : x ∷ t ≡ [] = sym e ∙ at-end s i (leb-true (length s) i l) in
+        let z : _≡_ {A = ℕ} 0 1 = cc in absurd (omega arith)
+    go false l =
+        let h : i < length s = leb-false (length s) i l in
+        let k : getD s i 0 ∷ drop (i + 1) s ≡ x ∷ t = sym (at-cons s i h) ∙ e in
+        (h, cc, cc)
+
+-- a place that was found
+pub place-after : (s : Bytes) (p : ℕ) (r : Found) → PlaceAfter s p r → (x : ℕ) → r ≡ At x → (p < x) × (x ≤ length s)
+place-after s p r a x q = rw q at a
+
+pub value-after : (s : Bytes) (p e : ℕ) → endOf (length s) (read maxDepth (drop p s)) ≡ skip.End e → (p < e) × (e ≤ length s)
+value-after s p e q = let l = located s p e (read-fits maxDepth (drop p s)) q in (l .after, l .within)
+
+-- the value of a canonical text stands at its beginning, and nothing follows
+pub whole : (s : Bytes) → Canonical maxDepth s → (v : Json) × (here : Stands s 0 v) × (here .rest ≡ [])
+whole s c = (c .0, record { rest = []; text = c .2; free = tt; valid = c .1 }, refl)
+
+module _ (s : Bytes) (p : ℕ) (v : Json) (h : Stands s p v) where
+  pub front : Begins v (drop p s)
+  front = begins v maxDepth (h .rest) (drop p s) (h .valid) (h .text)
+
+  pub inside : p < length s
+  inside = there s p (front .first) (front .others) (front .is) .0
+
+  -- the rest begins where the value ends
+  pub rest-at : drop (length s - length (h .rest)) s ≡ h .rest
+  rest-at =
+      let a = put v [] in
+      let k : drop p s ≡ a ++ h .rest = h .text ∙ put-split v (h .rest) in
+      let l : length s - p ≡ length a + length (h .rest) = sym (length-drop p s) ∙ ap length k ∙ length-append a (h .rest) in
+      let i = inside in
+      let e : length s - length (h .rest) ≡ p + length a = omega arith in
+      ap (λ (n : ℕ). drop n s) e ∙ sym (drop-drop (length a) p s) ∙ ap (λ (t : Bytes). drop (length a) t) k ∙ drop-at a (h .rest) (length a) refl
+
+  pub read-there : read maxDepth (drop p s) ≡ got v (h .rest)
+  read-there = ap (λ (t : Bytes). read maxDepth t) (h .text) ∙ complete v maxDepth (h .rest) (h .valid) (h .free)
+
+  pub value-ends : (e : ℕ) → endOf (length s) (read maxDepth (drop p s)) ≡ skip.End e → e ≡ length s - length (h .rest)
+  value-ends e q =
+      let k : skip.End e ≡ skip.End (length s - length (h .rest)) = sym q ∙ ap (λ (g : Got Json). endOf (length s) g) read-there in
+      cc
+
+  pub value-found : endOf (length s) (read maxDepth (drop p s)) ≡ skip.No → ⊥
+  value-found q =
+      let k : skip.No ≡ skip.End (length s - length (h .rest)) = sym q ∙ ap (λ (g : Got Json). endOf (length s) g) read-there in
+      let z : _≡_ {A = ℕ} 0 1 = cc in omega arith
+
+  module _ {r : Found} (w : EndsAt s p r) where
+    pub end-found : r ≡ Nothing → ⊥
+    end-found q =
+        let k : Nothing ≡ At (length s - length (h .rest)) = sym q ∙ w .means v h in
+        let z : _≡_ {A = ℕ} 0 1 = cc in omega arith
+
+    pub end-is : (e : ℕ) → r ≡ At e → e ≡ length s - length (h .rest)
+    end-is e q = let k : At e ≡ At (length s - length (h .rest)) = sym q ∙ w .means v h in cc

@@ -1,0 +1,41 @@
+-- A value at a place of a text, and what a place that is handed back says.
+use mathlib.Core.Path.{_≡_}
+use mathlib.Core.Option.{Option, none, some}
+use Prim.Native.Nat.{ℕ, _-_, _<_, _≤_}
+use lib.ListN.{length, drop}
+use Rattle.base.specs.Bytes.{Bytes}
+use Rattle.json.specs.Json.{Json, put, Valid, maxDepth}
+use Rattle.json.specs.Read.{NoDigit}
+use Rattle.lookup.specs.declared.Found.{Found}
+use Rattle.lookup.specs.declared.Found.the-variants.{Nothing, At}
+
+-- the text of v stands at place p of s, and what follows does not prolong it
+pub record Stands (s : Bytes) (p : ℕ) (v : Json) : Type 0 where
+  pub rest : Bytes
+  pub text : drop p s ≡ put v rest
+  pub free : NoDigit rest
+  pub valid : Valid v maxDepth
+
+-- r is the place of the value o, or says that there is none
+abbrev pub PlaceOf : Bytes → Found → Option Json → Type 0
+PlaceOf s Nothing o = o ≡ none
+PlaceOf s (At x) o = (w : Json) × (o ≡ some w) × Stands s x w
+
+-- What a function promises that looks for something in the value at p. Where no value stands there the answer is the program's choice.
+abbrev pub Finds : Bytes → ℕ → (Json → Option Json) → Found → Type 0
+Finds s p f r = (v : Json) → Stands s p v → PlaceOf s r (f v)
+
+-- the same of one that takes something out of it
+abbrev pub Takes : {A : Type 0} → Bytes → ℕ → (Json → Option A) → Option A → Type 0
+Takes s p f o = (v : Json) → Stands s p v → o ≡ f v
+
+-- a place that is handed back lies after p and in the text
+abbrev pub PlaceAfter : Bytes → ℕ → Found → Type 0
+PlaceAfter s p Nothing = Unit {0}
+PlaceAfter s p (At x) = (p < x) × (x ≤ length s)
+
+-- r is where the value at p ends: just before what follows it
+pub record EndsAt (s : Bytes) (p : ℕ) (r : Found) : Type 0 where
+  pub means : (v : Json) (here : Stands s p v) → r ≡ At (length s - length (here .rest))
+  -- of every text, so that loops end
+  pub onward : PlaceAfter s p r

@@ -1,0 +1,351 @@
+// Values inside a canonical text, by place: members by name, elements in order, strings, numbers.
+// A place is an index into the text. The text was validated before: where no value stands at a place, the answer is any that ends.
+ghost use mathlib.Core.Path.{_≡_};
+ghost use lib.ListN.{length, drop};
+ghost use Rattle.base.specs.Bytes.{same};
+ghost use Rattle.json.specs.Read.{raw};
+ghost use Rattle.json.specs.Fields.{field};
+ghost use Rattle.lookup.specs.Place.{EndsAt, Finds};
+ghost use Rattle.lookup.specs.Walk.{Opens, Follows, FirstElement, NextElement, MemberAt, FirstMember, NextMember};
+ghost use Rattle.lookup.specs.Leaves.{stringIn, Copies, leadingTo, numberIn, viewNumber, truthIn, viewTruth};
+use json::Char;
+use json::Skip;
+
+// The place of what was looked for.
+pub enum Found {
+    Nothing,
+    At(usize),
+}
+
+// Just past the value at `at`. The contract speaks of values that stand there, so a skip that does not validate may take the reader's place.
+pub fn value_end(s: &[u8], at: usize) -> Found
+    ensures { λ r. ⌜ EndsAt (now (s .entry)) at r ⌝ }
+{
+    match json::value(s, at, json::MAX_DEPTH) {
+        Skip::No => {
+            return Found::Nothing;
+        }
+        Skip::End(e) => {
+            return Found::At(e);
+        }
+    }
+}
+
+// ---- Elements of an array
+
+// The place of the next element.
+pub enum Element {
+    NoArray,
+    End,
+    At(usize),
+}
+
+// What follows the opening byte at `at`: the closing byte, or the first element or member.
+fn opened(s: &[u8], at: usize, start: u8, close: u8) -> Element
+    ensures { λ r. ⌜ Opens (now (s .entry)) at start close r ⌝ }
+{
+    if s.len() <= at {
+        return Element::NoArray;
+    }
+    if s[at] != start {
+        return Element::NoArray;
+    }
+    let i = at + 1;
+    if s.len() <= i {
+        return Element::NoArray;
+    }
+    if s[i] == close {
+        return Element::End;
+    }
+    Element::At(i)
+}
+
+// What follows the value at `i`: the closing byte, or a comma and the next element or member.
+fn following(s: &[u8], i: usize, close: u8) -> Element
+    ensures { λ r. ⌜ Follows (now (s .entry)) i close r ⌝ }
+{
+    match value_end(s, i) {
+        Found::Nothing => {
+            return Element::NoArray;
+        }
+        Found::At(e) => {
+            if s.len() <= e {
+                return Element::NoArray;
+            }
+            if s[e] == close {
+                return Element::End;
+            }
+            return Element::At(e + 1);
+        }
+    }
+}
+
+// The first element of the array at `at`.
+pub fn first_element(s: &[u8], at: usize) -> Element
+    ensures { λ r. ⌜ FirstElement (now (s .entry)) at r ⌝ }
+{
+    opened(s, at, b'[', b']')
+}
+
+// The element after the one at `i`.
+pub fn next_element(s: &[u8], i: usize) -> Element
+    ensures { λ r. ⌜ NextElement (now (s .entry)) i r ⌝ }
+{
+    following(s, i, b']')
+}
+
+// ---- Members of an object
+
+// The next member: the place of its name, just past the opening quote, and the place of its value.
+pub enum Member {
+    NoObject,
+    End,
+    At { name: usize, value: usize },
+}
+
+// The member whose name's opening quote stands at `i`.
+fn member_at(s: &[u8], i: usize) -> Member
+    ensures { λ r. ⌜ MemberAt (now (s .entry)) i r ⌝ }
+{
+    if s.len() <= i {
+        return Member::NoObject;
+    }
+    let name = i + 1;
+    match json::string(s, name) {
+        Skip::No => {
+            return Member::NoObject;
+        }
+        Skip::End(e) => {
+            if s.len() <= e {
+                return Member::NoObject;
+            }
+            return Member::At { name, value: e + 1 };
+        }
+    }
+}
+
+// The first member of the object at `at`.
+pub fn first_member(s: &[u8], at: usize) -> Member
+    ensures { λ r. ⌜ FirstMember (now (s .entry)) at r ⌝ }
+{
+    match opened(s, at, b'{', b'}') {
+        Element::NoArray => {
+            return Member::NoObject;
+        }
+        Element::End => {
+            return Member::End;
+        }
+        Element::At(i) => {
+            return member_at(s, i);
+        }
+    }
+}
+
+// The member after the one whose value stands at `value`.
+pub fn next_member(s: &[u8], value: usize) -> Member
+    ensures { λ r. ⌜ NextMember (now (s .entry)) value r ⌝ }
+{
+    match following(s, value, b'}') {
+        Element::NoArray => {
+            return Member::NoObject;
+        }
+        Element::End => {
+            return Member::End;
+        }
+        Element::At(i) => {
+            return member_at(s, i);
+        }
+    }
+}
+
+// The value of the member of that name, in the object at `at`.
+pub fn find_member(s: &[u8], at: usize, name: &[u8]) -> Found
+    ensures { λ r. ⌜ Finds (now (s .entry)) at (field (now (name .entry))) r ⌝ }
+{
+    let mut m = first_member(s, at);
+    loop {
+        match m {
+            Member::At { name: n, value: v } => {
+                if text_is(s, n, name) {
+                    return Found::At(v);
+                }
+                m = next_member(s, v);
+            }
+            Member::NoObject => {
+                return Found::Nothing;
+            }
+            Member::End => {
+                return Found::Nothing;
+            }
+        }
+    }
+}
+
+// ---- Strings: `i` stands just past the opening quote; escapes are undone
+
+// Where the string at `at` begins, just past its opening quote.
+pub fn string_at(s: &[u8], at: usize) -> Found
+    ensures { λ r. ⌜ r ≡ stringIn at (drop at (now (s .entry))) ⌝ }
+{
+    if s.len() <= at {
+        return Found::Nothing;
+    }
+    if s[at] != b'"' {
+        return Found::Nothing;
+    }
+    Found::At(at + 1)
+}
+
+// Whether the string is `k`.
+pub fn text_is(s: &[u8], i: usize, k: &[u8]) -> bool
+    ensures { λ r. ⌜ r ≡ same (raw (drop i (now (s .entry)))) (now (k .entry)) ⌝ }
+{
+    let mut p = i;
+    let mut j = 0;
+    loop {
+        match json::char_at(s, p) {
+            Char::Close => {
+                return j == k.len();
+            }
+            Char::Byte(b, next) => {
+                if k.len() <= j {
+                    return false;
+                }
+                if b != k[j] {
+                    return false;
+                }
+                p = next;
+                j += 1;
+            }
+        }
+    }
+}
+
+// How many bytes the string has.
+pub fn text_len(s: &[u8], i: usize) -> usize
+    ensures { λ r. ⌜ r ≡ length (raw (drop i (now (s .entry)))) ⌝ }
+{
+    let mut p = i;
+    let mut n: usize = 0;
+    loop {
+        match json::char_at(s, p) {
+            Char::Close => {
+                return n;
+            }
+            Char::Byte(_, next) => {
+                p = next;
+                n += 1;
+            }
+        }
+    }
+}
+
+// Copies the string's bytes to the front of `out`; where they do not fit, `out` stays as it is.
+pub fn copy_text(s: &[u8], i: usize, out: &mut [u8]) -> bool
+    ensures { λ r. ⌜ Copies (raw (drop i (now (s .entry)))) (now (out .entry)) r (now (out .exit)) ⌝ }
+{
+    if out.len() < text_len(s, i) {
+        return false;
+    }
+    let mut p = i;
+    let mut n: usize = 0;
+    loop {
+        match json::char_at(s, p) {
+            Char::Close => {
+                return true;
+            }
+            Char::Byte(b, next) => {
+                out[n] = b;
+                p = next;
+                n += 1;
+            }
+        }
+    }
+}
+
+// ---- Numbers and truth values
+
+pub enum Number {
+    No,
+    Is(u64),
+}
+
+fn wide(b: u8) -> u64
+    ensures { λ r. ⌜ r ≡ b ⌝ }
+{
+    b as u64
+}
+
+// The number that the digits at `at` write, where it is at most hi. No sum wraps, however many digits there are.
+fn digits(s: &[u8], at: usize, hi: u64) -> Number
+    ensures { λ r. ⌜ viewNumber r ≡ leadingTo hi (drop at (now (s .entry))) ⌝ }
+{
+    let mut n: u64 = 0;
+    let mut i = at;
+    while i < s.len() {
+        let b = s[i];
+        if b < 48 {
+            return Number::Is(n);
+        }
+        if 57 < b {
+            return Number::Is(n);
+        }
+        let d = wide(b - 48);
+        if hi / 10 < n {
+            return Number::No;
+        }
+        let m = n * 10;
+        if hi - m < d {
+            return Number::No;
+        }
+        n = m + d;
+        i += 1;
+    }
+    Number::Is(n)
+}
+
+// The whole number from lo to hi that stands at `at`.
+pub fn number_at(s: &[u8], at: usize, lo: u64, hi: u64) -> Number
+    ensures { λ r. ⌜ viewNumber r ≡ numberIn lo hi (drop at (now (s .entry))) ⌝ }
+{
+    if s.len() <= at {
+        return Number::No;
+    }
+    let first = s[at];
+    if first < 48 {
+        return Number::No;
+    }
+    if 57 < first {
+        return Number::No;
+    }
+    match digits(s, at, hi) {
+        Number::No => {
+            return Number::No;
+        }
+        Number::Is(n) => {
+            if n < lo {
+                return Number::No;
+            }
+            return Number::Is(n);
+        }
+    }
+}
+
+pub enum Truth {
+    No,
+    Is(bool),
+}
+
+// true or false, where it stands at `at`.
+pub fn truth_at(s: &[u8], at: usize) -> Truth
+    ensures { λ r. ⌜ viewTruth r ≡ truthIn (drop at (now (s .entry))) ⌝ }
+{
+    if s.len() <= at {
+        return Truth::No;
+    }
+    match s[at] {
+        b't' => Truth::Is(true),
+        b'f' => Truth::Is(false),
+        _ => Truth::No,
+    }
+}
