@@ -1,17 +1,29 @@
 // What is read from files and held in the trusted state, as structs by value, and 01's limits. specs/View.antt says what each stands for.
 use date::Time;
+ghost use mathlib.Core.Path.{_≡_};
+ghost use Prim.Native.Nat.{min};
 
 // The limits of 01; those of the specs are in rules.
 pub const MAX_FILE: usize = 32768;
+
 pub const MAX_ENTRIES: usize = 16;
+
 pub const MAX_VERSION: u64 = 2147483647;
+
 pub const MAX_KEYS: usize = 16;
+
 pub const MAX_KEYIDS: usize = 16;
+
 pub const MAX_NAMES: usize = 32;
+
 pub const MAX_NAME: usize = 32;
+
 pub const MAX_LENGTH: u64 = 4294967295;
+
 pub const MAX_TARGETS: usize = 256;
+
 pub const MAX_PATH: usize = 128;
+
 pub const DIGEST: usize = 32;
 
 // A keyid, a public key or a digest.
@@ -94,4 +106,11 @@ pub struct Targets {
     pub version: u64,
     pub expires: Time,
     pub digest: Id,
+}
+
+// A count as it is meant: at most the size of its array.
+pub fn at_most(n: usize, most: usize) -> usize
+    ensures { λ r. ⌜ r ≡ min n most ⌝ }
+{
+    if n < most { n } else { most }
 }
