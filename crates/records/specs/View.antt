@@ -3,7 +3,7 @@
 use mathlib.Core.Bool.{Bool, true, false, cond}
 use mathlib.Core.List.{List, [], _∷_}
 use mathlib.Core.Option.{Option, none, some}
-use Prim.Native.Nat.{ℕ, _/_, _%_, _^_, min}
+use Prim.Native.Nat.{ℕ, suc, _/_, _%_, _^_, min}
 use lib.Dec.{eqb}
 use lib.ListN.{getD}
 use Rattle.base.specs.Bytes.{Bytes}
@@ -61,7 +61,7 @@ has bits i = eqb (bits / 2 ^ i % 2) 1
 -- the keyids of the table, in its order, whose bits are set; i is the place of the first
 unfoldable pub pick : ℕ → ℕ → List rules.Key → List Bytes
 pick bits i [] = []
-pick bits i (k ∷ ks) = cond (has bits i) (k .keyid ∷ pick bits (Prim.Native.Nat.suc i) ks) (pick bits (Prim.Native.Nat.suc i) ks)
+pick bits i (k ∷ ks) = cond (has bits i) (k .keyid ∷ pick bits (suc i) ks) (pick bits (suc i) ks)
 
 unfoldable pub viewRole : KeyTable → Role → rules.Role
 viewRole t r = record { keyids = pick (r .keys) 0 (viewTable t); threshold = r .threshold }
