@@ -6,8 +6,8 @@ use Rattle.rules.specs.Steps.{answer, offered, started, next, installed}
 use Rattle.rules.specs.Asked.{Found}
 use Rattle.rules.specs.Exactly.{RootRead, InstallExactly, ImageExactly, Demand2}
 use Rattle.rules.specs.History.{History, run, end}
-use Rattle.history.proofs.NextLaws.{next-refused, next-same}
-use Rattle.history.proofs.ExactlyLaws.{root-good, good-root, root-after, timestamp-good, good-timestamp, timestamp-after, snapshot-good, good-snapshot, snapshot-after, targets-good, good-targets, targets-after, find-good, good-find, finds, finds-nothing, key-good, good-key, key-given, no-key, image-good, good-image, next-cycle, install-good, good-install, install-after, install-refused}
+use Rattle.rules.proofs.NextLaws.{next-refused, next-same}
+use Rattle.rules.proofs.ExactlyLaws.{root-good, good-root, root-after, timestamp-good, good-timestamp, timestamp-after, snapshot-good, good-snapshot, snapshot-after, targets-good, good-targets, targets-after, find-good, good-find, finds, finds-nothing, key-good, good-key, key-given, no-key, image-good, good-image, next-cycle, install-good, good-install, install-after, install-refused}
 use Rattle.history.proofs.Trusted.{read-next, read-installed}
 
 pub install-exactly : (o : Install) → InstallExactly o

@@ -12,8 +12,8 @@ use Rattle.rules.specs.Steps.{installed, rootAlone, next, aRoot}
 use Rattle.rules.specs.Words.{GoodRow, Enough}
 use Rattle.rules.specs.Exactly.{RootRead}
 use Rattle.rules.specs.History.{History, run, end, Event, begins, calls, events, happened, BecomesTrusted, Apart, upTo, Demand3}
-use Rattle.history.proofs.TableLaws.{one-held}
-use Rattle.history.proofs.ExactlyLaws.{install-good, install-after}
+use Rattle.rules.proofs.TableLaws.{one-held}
+use Rattle.rules.proofs.ExactlyLaws.{install-good, install-after}
 use Rattle.history.proofs.Trusted.{TrustedBy, root, trusted-by, by-trusted, read-next, read-installed}
 use Rattle.history.proofs.Falls.{Rising, rising-same, rising-trans, rising, roots-rise, timestamps-rise, snapshots-rise, targets-rise}
 use Rattle.history.proofs.Held.{root-held, timestamp-held, snapshot-held, targets-held}

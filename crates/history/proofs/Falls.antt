@@ -17,8 +17,8 @@ use Rattle.rules.specs.Words.{Keeps}
 use Rattle.rules.specs.Exactly.{RootRead}
 use Rattle.rules.specs.History.{History, Event, begins, calls, events, happened, BecomesTrusted, replaces, Rotates, Apart, Unrotated}
 use Rattle.rules.proofs.WordLaws.{rotates-exactly, keeps-trans, keeps-targets}
-use Rattle.history.proofs.TableLaws.{one-held}
-use Rattle.history.proofs.ExactlyLaws.{root-after, timestamp-after, snapshot-after, targets-after}
+use Rattle.rules.proofs.TableLaws.{one-held}
+use Rattle.rules.proofs.ExactlyLaws.{root-after, timestamp-after, snapshot-after, targets-after}
 use Rattle.history.proofs.Trusted.{TrustedBy, root, timestamp, snapshot, targets, trusted-by, by-trusted, idle-same, kind, read-next, read-installed}
 use Rattle.history.proofs.Left.{Left, left, left-installed}
 

@@ -14,8 +14,8 @@ use Rattle.rules.specs.Exactly.{RootRead}
 use Rattle.rules.specs.History.{History, run, end, Event, begins, calls, events, happened, BecomesTrusted, atInstall, replaces, OtherKeys, OtherTargetsKeys, LastOf, Another, AnotherOr}
 use Rattle.rules.proofs.OptionLaws.{none-not-some}
 use Rattle.rules.proofs.WordLaws.{rotates-exactly, rotates-targets-exactly}
-use Rattle.history.proofs.TableLaws.{one-held}
-use Rattle.history.proofs.ExactlyLaws.{root-after, timestamp-after, snapshot-after, targets-after, install-good, install-after}
+use Rattle.rules.proofs.TableLaws.{one-held}
+use Rattle.rules.proofs.ExactlyLaws.{root-after, timestamp-after, snapshot-after, targets-after, install-good, install-after}
 use Rattle.history.proofs.Trusted.{TrustedBy, root, timestamp, snapshot, targets, trusted-by, by-trusted, one-trusted, trusted-next, SameRecords, idle-same, kind, read-next, read-installed}
 use Rattle.history.proofs.Left.{left, left-installed}
 

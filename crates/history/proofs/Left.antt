@@ -5,7 +5,7 @@ use Rattle.rules.specs.State.{Timestamp, Snapshot, Targets, State, keepTargets,
 use Rattle.rules.specs.Conditions.{targetsEntry}
 use Rattle.rules.specs.Steps.{next, installed, rootAlone, withRoot, withTimestamp, withSnapshot, withTargets, Item, aRoot, aTimestamp, aSnapshot, aTargets}
 use Rattle.rules.specs.History.{begins, BecomesTrusted, atInstall}
-use Rattle.history.proofs.ExactlyLaws.{root-after, timestamp-after, snapshot-after, targets-after, install-after}
+use Rattle.rules.proofs.ExactlyLaws.{root-after, timestamp-after, snapshot-after, targets-after, install-after}
 use Rattle.history.proofs.Trusted.{TrustedBy, root, timestamp, snapshot, targets}
 
 -- a snapshot, beside the timestamp that lists its version

@@ -1,7 +1,4 @@
-pub mod TableLaws
 pub mod LowestLaws
-pub mod NextLaws
-pub mod ExactlyLaws
 pub mod Trusted
 pub mod Left
 pub mod Falls

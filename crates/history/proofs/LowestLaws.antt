@@ -16,7 +16,7 @@ use Rattle.rules.specs.Table.{Refusal, _when_, first}
 use Rattle.rules.specs.Steps.{installTable, rootTable, timestampTable, snapshotTable, targetsTable, findTable, keyTable, faultNumber, judged, installAnswer, answer}
 use Rattle.rules.specs.Asked.{imageTable, imageAnswer}
 use Rattle.rules.specs.Lowest.{LowestOf, noneHolds, holds, Judgement, unread, judges, Lowest}
-use Rattle.history.proofs.TableLaws.{rising}
+use Rattle.rules.proofs.TableLaws.{rising}
 
 -- no line has a number below m
 none-below : (m : ℕ) (rows : List Refusal) → rising m rows ≡ true → (n : ℕ) (b : Bool) → List·Memᴰ (n when b) rows → m ≤ n

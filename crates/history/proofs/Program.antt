@@ -9,7 +9,7 @@ use Rattle.rules.specs.Steps.{answer, offered, started, next, installed, Steppe
 use Rattle.rules.specs.Exactly.{RootRead}
 use Rattle.rules.specs.History.{run, end, Event, begins, events, happened, RootTurn, Plan, afterRoots, atTimestamp, atSnapshot, Honest, RootsThrough, Through}
 use Rattle.history.specs.Program.{Step, Chained, after, callsOf, Run, last, historyOf, eventOf, Leg, RootLegs, afterLegs, RootsAccepted, Carried, Accepted, Holds}
-use Rattle.history.proofs.NextLaws.{next-same}
+use Rattle.rules.proofs.NextLaws.{next-same}
 use Rattle.history.proofs.Trusted.{read-next, read-installed}
 use Rattle.history.proofs.Demand2.{demand2}
 use Rattle.history.proofs.Demand3.{demand3}

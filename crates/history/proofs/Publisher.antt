@@ -7,7 +7,7 @@ use Rattle.rules.specs.State.{Root, State, Call, newRoot, newTimestamp, newSnap
 use Rattle.rules.specs.Steps.{next, withRoot, withTimestamp, withSnapshot, withTargets}
 use Rattle.rules.specs.Exactly.{RootGood, TimestampGood, SnapshotGood, TargetsGood, LeansOnRoot, LeansOnTimestamp, LeansOnSnapshot}
 use Rattle.rules.specs.History.{run, Quiet, RootTurn, Plan, atRoot, afterRoots, atTimestamp, atSnapshot, atTargets, lastRoot, InTurn, QuietRoots, Honest, RootsThrough, Through}
-use Rattle.history.proofs.ExactlyLaws.{good-root, root-after, good-timestamp, timestamp-after, good-snapshot, snapshot-after, good-targets, targets-after}
+use Rattle.rules.proofs.ExactlyLaws.{good-root, root-after, good-timestamp, timestamp-after, good-snapshot, snapshot-after, good-targets, targets-after}
 use Rattle.history.proofs.Trusted.{SameRecords, same-is, same-trans, idle-same}
 
 -- ## What comes between

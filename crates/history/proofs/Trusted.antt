@@ -12,9 +12,9 @@ use Rattle.rules.specs.Steps.{answer, next, installAnswer, installed, rootAlone
 use Rattle.rules.specs.Exactly.{RootGood, TimestampGood, SnapshotGood, TargetsGood, RootRead}
 use Rattle.rules.specs.History.{calls, BecomesTrusted, atCall, Idle}
 use Rattle.rules.proofs.OptionLaws.{none-not-some}
-use Rattle.history.proofs.TableLaws.{one-held}
-use Rattle.history.proofs.NextLaws.{next-refused, next-none}
-use Rattle.history.proofs.ExactlyLaws.{root-good, good-root, root-offered, root-after, timestamp-good, good-timestamp, timestamp-offered, timestamp-after, snapshot-good, good-snapshot, snapshot-offered, snapshot-after, targets-good, good-targets, targets-offered, targets-after, install-good, install-after}
+use Rattle.rules.proofs.TableLaws.{one-held}
+use Rattle.rules.proofs.NextLaws.{next-refused, next-none}
+use Rattle.rules.proofs.ExactlyLaws.{root-good, good-root, root-offered, root-after, timestamp-good, good-timestamp, timestamp-offered, timestamp-after, snapshot-good, good-snapshot, snapshot-offered, snapshot-after, targets-good, good-targets, targets-offered, targets-after, install-good, install-after}
 
 -- ## Which file, by which call
 

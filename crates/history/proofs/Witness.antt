@@ -22,9 +22,9 @@ use Rattle.rules.proofs.Texts.{k, l}
 use Rattle.rules.proofs.Computing.{tables}
 use Rattle.rules.proofs.OptionLaws.{none-not-some, some-is}
 use Rattle.rules.proofs.WordLaws.{row-good, fresh-exactly, passes-enough, keeps-exactly, matches-exactly}
-use Rattle.history.proofs.TableLaws.{one-held, judged-is}
-use Rattle.history.proofs.NextLaws.{next-trusting, next-refused, next-same, says-what}
-use Rattle.history.proofs.ExactlyLaws.{next-cycle, install-after}
+use Rattle.rules.proofs.TableLaws.{one-held, judged-is}
+use Rattle.rules.proofs.NextLaws.{next-trusting, next-refused, next-same, says-what}
+use Rattle.rules.proofs.ExactlyLaws.{next-cycle, install-after}
 use Rattle.history.proofs.Demand3.{apart-at, demand3}
 use Rattle.history.proofs.WitnessFiles.{a, b, only, rootText, rootAt, versionText, d, fullText, versionOnly, full, timestampText, timestampAt, snapshotText, targetsText, targetsAt, imageText, anImage, plainNames, moreNames, lowNames, fullNames, low, complete, Says, readings}
 

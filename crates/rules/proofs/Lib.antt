@@ -12,3 +12,6 @@ pub mod StepCases
 pub mod Texts
 pub mod FileCases
 pub mod RunCases
+pub mod TableLaws
+pub mod NextLaws
+pub mod ExactlyLaws

@@ -11,21 +11,21 @@ use borrow.Author.Tests.{eq-eqb, eqb-true, ltb-false, le-ltb, eqb-false, ne-eqb,
 use Rattle.base.specs.Bytes.{Bytes}
 use Rattle.base.specs.Hex.{undo}
 use Rattle.date.specs.Calendar.{expired}
 use Rattle.rules.specs.Limits.{keySize}
 use Rattle.rules.specs.Records.{Key, Image, File, says}
 use Rattle.rules.specs.State.{Root, Timestamp, Snapshot, State, blank, rootIn, timestampIn, snapshotIn, targetsIn, keepTargets, Install, RootOffer, TimestampOffer, FileOffer, Query, newCycle, newRoot, newTimestamp, newSnapshot, newTargets, find, askKey}
 use Rattle.rules.specs.Table.{first, ofHeld, absent}
 use Rattle.rules.specs.Conditions.{staleSnapshot, staleTargets, imageOf, keyOf}
 use Rattle.rules.specs.Steps.{installTable, cycleTable, rootTable, timestampTable, snapshotTable, targetsTable, findTable, keyTable, installAnswer, installed, begun, rootAlone, answer, refuses, next, withStart, withRoot, withTimestamp, withSnapshot, withTargets, aRoot, aTimestamp, aSnapshot, aTargets, offered, started, trusting, afterRoot}
 use Rattle.rules.specs.Asked.{Found, imageTable, imageAnswer, nothingFound, theImage, inTargets, found, zeros, publicOf, inRoot, publicKey}
 use Rattle.rules.specs.Words.{Different}
 use Rattle.rules.specs.Exactly.{LeansOnRoot, LeansOnTimestamp, LeansOnSnapshot, LeansOnTargets, InstallGood, RootGood, TimestampGood, SnapshotGood, TargetsGood, FindGood, KeyGood, ImageGood, RootRead}
 use Rattle.rules.proofs.OptionLaws.{not-absent}
 use Rattle.rules.proofs.ListLaws.{not-exactly, same-exactly}
 use Rattle.rules.proofs.WordLaws.{row-good, digest-good, version-exactly, fresh-exactly, enough-passes, passes-enough, keeps-exactly, matches-exactly}
 use Rattle.rules.proofs.RootLaws.{root-different}
-use Rattle.history.proofs.TableLaws.{_&_, clear-first, no-line, held-test, test-held, judged-says, says-judged}
-use Rattle.history.proofs.NextLaws.{next-none, next-trusting, says-what}
+use Rattle.rules.proofs.TableLaws.{_&_, clear-first, no-line, held-test, test-held, judged-says, says-judged}
+use Rattle.rules.proofs.NextLaws.{next-none, next-trusting, says-what}
 
 -- ## Root
 
