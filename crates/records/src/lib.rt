@@ -3,15 +3,25 @@ use date::Time;
 
 // The limits of 01; those of the specs are in rules.
 pub const MAX_FILE: usize = 32768;
+
 pub const MAX_ENTRIES: usize = 16;
+
 pub const MAX_VERSION: u64 = 2147483647;
+
 pub const MAX_KEYS: usize = 16;
+
 pub const MAX_KEYIDS: usize = 16;
+
 pub const MAX_NAMES: usize = 32;
+
 pub const MAX_NAME: usize = 32;
+
 pub const MAX_LENGTH: u64 = 4294967295;
+
 pub const MAX_TARGETS: usize = 256;
+
 pub const MAX_PATH: usize = 128;
+
 pub const DIGEST: usize = 32;
 
 // A keyid, a public key or a digest.
