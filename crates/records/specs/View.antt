@@ -5,7 +5,7 @@ use mathlib.Core.List.{List, [], _∷_}
 use mathlib.Core.Option.{Option, none, some}
 use Prim.Native.Nat.{ℕ, _/_, _%_, _^_, min}
 use lib.Dec.{eqb}
-use lib.ListN.{getD, replicate}
+use lib.ListN.{getD}
 use Rattle.base.specs.Bytes.{Bytes}
 use Rattle.base.specs.Window.{run, window}
 use Rattle.json.specs.Fields.{keep}
@@ -35,8 +35,9 @@ firsts f n most = run f 0 (min n most)
 unfoldable pub viewId : Id → Bytes
 viewId i = window (i .bytes) 0 keySize
 
+-- what an index past an array's end gives in the logic; no index of a view is
 abbrev pub noId : Id
-noId = record { bytes = replicate 32 0 }
+noId = record { bytes = [] }
 
 unfoldable pub viewEntries : Entries → List Bytes
 viewEntries e = firsts (λ i. viewId (getD (e .ids) i noId)) (e .count) maxEntries
@@ -95,7 +96,7 @@ viewNamed n = record { name = viewName (n .name); listed = viewListed (n .listed
 abbrev pub noNamed : Named
 noNamed =
     record {
-      name = record { length = 0; bytes = replicate 32 0 };
+      name = record { length = 0; bytes = [] };
       listed = record { version = 0; measured = false; length = 0; hashed = false; digest = noId };
     }
 

@@ -1,5 +1,7 @@
 // What is read from files and held in the trusted state, as structs by value, and 01's limits. specs/View.antt says what each stands for.
 use date::Time;
+ghost use mathlib.Core.Path.{_≡_};
+ghost use Prim.Native.Nat.{min};
 
 // The limits of 01; those of the specs are in rules.
 pub const MAX_FILE: usize = 32768;
@@ -104,4 +106,11 @@ pub struct Targets {
     pub version: u64,
     pub expires: Time,
     pub digest: Id,
+}
+
+// A count as it is meant: at most the size of its array.
+pub fn at_most(n: usize, most: usize) -> usize
+    ensures { λ r. ⌜ r ≡ min n most ⌝ }
+{
+    if n < most { n } else { most }
 }

@@ -1,0 +1,4 @@
+pub mod BitLaws
+pub mod TableLaws
+pub mod RowLaws
+pub mod CountLaws
