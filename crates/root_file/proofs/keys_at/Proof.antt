@@ -1,0 +1,33 @@
+use borrow.Author.Needs.{needs}
+use Rattle.root_file.proofs.keys_at.Statement.{statement}
+use Rattle.root_file.proofs.keys_at.Tie as tie
+use Rattle.root_file.proofs.keys_at.Reads as reads
+use Rattle.root_file.proofs.keys_at.Lts as lts
+use Rattle.root_file.proofs.no_keys.Reads as no-keys-reads
+use Rattle.root_file.proofs.publics_differ.Reads as publics-differ-reads
+use Rattle.root_file.proofs.table_at.Reads as table-at-reads
+
+-- src/lib.rt:184:9
+table-at-requires : tie.Need-table-at-requires
+table-at-requires c κs = search needs
+
+-- src/lib.rt:186:9
+no-keys-requires : tie.Need-no-keys-requires
+no-keys-requires c κs = search needs
+
+-- src/lib.rt:186:9
+returns : tie.Need-returns
+returns c = ?
+
+-- src/lib.rt:189:9
+publics-differ-requires : tie.Need-publics-differ-requires
+publics-differ-requires c κs = search needs
+
+-- src/lib.rt:181:1
+returns-2 : tie.Need-returns-2
+returns-2 c = ?
+
+pub keys-at-spec : {M : Type 1} → statement M
+keys-at-spec =
+    tie.close
+    (tie.spec table-at-requires no-keys-requires returns publics-differ-requires returns-2)

@@ -1,0 +1,53 @@
+use borrow.Author.Needs.{needs}
+use Rattle.root_file.proofs.keys_field.Statement.{statement}
+use Rattle.root_file.proofs.keys_field.Tie as tie
+use Rattle.root_file.proofs.keys_field.Reads as reads
+use Rattle.root_file.proofs.keys_field.Lts as lts
+use Rattle.lookup.proofs.find_member.Reads as find-member-reads
+use Rattle.root_file.proofs.keys_at.Reads as keys-at-reads
+use Rattle.root_file.proofs.no_keys.Reads as no-keys-reads
+
+-- src/lib.rt:196:38
+slice-aggregate-find-member : tie.Need-slice-aggregate-find-member
+slice-aggregate-find-member c = search needs
+
+-- src/lib.rt:196:11
+find-member-requires : tie.Need-find-member-requires
+find-member-requires c κs = search needs
+
+-- src/lib.rt:198:13
+enum-told : tie.Need-enum-told
+enum-told c = search needs
+
+-- src/lib.rt:198:13
+no-keys-requires : tie.Need-no-keys-requires
+no-keys-requires c κs = search needs
+
+-- src/lib.rt:198:13
+returns : tie.Need-returns
+returns c = ?
+
+-- src/lib.rt:200:19
+enum-known-x : tie.Need-enum-known-x
+enum-known-x c = search needs
+
+-- src/lib.rt:201:13
+keys-at-requires : tie.Need-keys-at-requires
+keys-at-requires c κs = search needs
+
+-- src/lib.rt:201:13
+returns-2 : tie.Need-returns-2
+returns-2 c = ?
+
+pub keys-field-spec : {M : Type 1} → statement M
+keys-field-spec =
+    tie.close
+    (tie.spec
+    slice-aggregate-find-member
+    find-member-requires
+    enum-told
+    no-keys-requires
+    returns
+    enum-known-x
+    keys-at-requires
+    returns-2)

@@ -1,0 +1,87 @@
+use borrow.Author.Needs.{needs}
+use Rattle.root_file.proofs.roles_at.Statement.{statement}
+use Rattle.root_file.proofs.roles_at.Tie as tie
+use Rattle.root_file.proofs.roles_at.Reads as reads
+use Rattle.root_file.proofs.roles_at.Lts as lts
+use Rattle.root_file.proofs.no_roles.Reads as no-roles-reads
+use Rattle.root_file.proofs.role_field.Reads as role-field-reads
+
+-- src/lib.rt:366:34
+slice-aggregate-role-field : tie.Need-slice-aggregate-role-field
+slice-aggregate-role-field c = search needs
+
+-- src/lib.rt:366:9
+role-field-requires : tie.Need-role-field-requires
+role-field-requires c κs = search needs
+
+-- src/lib.rt:368:9
+no-roles-requires : tie.Need-no-roles-requires
+no-roles-requires c κs = search needs
+
+-- src/lib.rt:368:9
+returns : tie.Need-returns
+returns c = ?
+
+-- src/lib.rt:370:39
+slice-aggregate-role-field-2 : tie.Need-slice-aggregate-role-field-2
+slice-aggregate-role-field-2 c = search needs
+
+-- src/lib.rt:370:9
+role-field-requires-2 : tie.Need-role-field-requires-2
+role-field-requires-2 c κs = search needs
+
+-- src/lib.rt:372:9
+no-roles-requires-2 : tie.Need-no-roles-requires-2
+no-roles-requires-2 c κs = search needs
+
+-- src/lib.rt:372:9
+returns-2 : tie.Need-returns-2
+returns-2 c = ?
+
+-- src/lib.rt:374:38
+slice-aggregate-role-field-3 : tie.Need-slice-aggregate-role-field-3
+slice-aggregate-role-field-3 c = search needs
+
+-- src/lib.rt:374:9
+role-field-requires-3 : tie.Need-role-field-requires-3
+role-field-requires-3 c κs = search needs
+
+-- src/lib.rt:376:9
+no-roles-requires-3 : tie.Need-no-roles-requires-3
+no-roles-requires-3 c κs = search needs
+
+-- src/lib.rt:376:9
+returns-3 : tie.Need-returns-3
+returns-3 c = ?
+
+-- src/lib.rt:378:37
+slice-aggregate-role-field-4 : tie.Need-slice-aggregate-role-field-4
+slice-aggregate-role-field-4 c = search needs
+
+-- src/lib.rt:378:9
+role-field-requires-4 : tie.Need-role-field-requires-4
+role-field-requires-4 c κs = search needs
+
+-- src/lib.rt:363:1
+returns-4 : tie.Need-returns-4
+returns-4 c = ?
+
+pub roles-at-spec : {M : Type 1} → statement M
+roles-at-spec =
+    tie.close
+    (tie.spec
+    slice-aggregate-role-field
+    role-field-requires
+    no-roles-requires
+    returns
+    slice-aggregate-role-field-2
+    role-field-requires-2
+    no-roles-requires-2
+    returns-2
+    slice-aggregate-role-field-3
+    role-field-requires-3
+    no-roles-requires-3
+    returns-3
+    slice-aggregate-role-field-4
+    role-field-requires-4
+    returns-4)
