@@ -69,21 +69,21 @@ module _ (keys : List Key) where
       rw (different-last x a, all-last (λ k. isIn k (keyidsIn keys)) x a, w .0, w .1)
 
 -- what holds of a whole list holds of its front
+apart-front : (x : Bytes) (a b : List Bytes) → isIn x (a ++ b) ≡ false → isIn x a ≡ false
+unfolding isIn
+apart-front x [] b e = refl
+apart-front x (y ∷ a) b e = let w = neither (same x y) (isIn x (a ++ b)) e in rw (w .0, apart-front x a b (w .1))
+
 different-front : (a b : List Bytes) → different (a ++ b) ≡ true → different a ≡ true
 unfolding different
 different-front [] b e = refl
 different-front (x ∷ a) b e =
     let w = both (not (isIn x (a ++ b))) (different (a ++ b)) e in
-    rw (apart a (w .0), different-front a b (w .1))
+    rw (apart-front x a b (absent (isIn x (a ++ b)) (w .0)), different-front a b (w .1))
   where
-    apart : (a : List Bytes) → not (isIn x (a ++ b)) ≡ true → isIn x a ≡ false
-    unfolding isIn
-    apart [] q = refl
-    apart (y ∷ a) q = step (same x y) q
-      where
-        step : (p : Bool) → not (p || isIn x (a ++ b)) ≡ true → p || isIn x a ≡ false
-        step true q = never (sym q)
-        step false q = apart a q
+    absent : (p : Bool) → not p ≡ true → p ≡ false
+    absent true q = never (sym q)
+    absent false q = refl
 
 all-front : (p : Bytes → Bool) (a b : List Bytes) → allOf p (a ++ b) ≡ true → allOf p a ≡ true
 all-front p [] b e = refl

@@ -1,4 +1,10 @@
 use borrow.Author.Needs.{needs}
+use borrow.Author.Tests.{not-true, not-false}
+use mathlib.Core.Path.{sym, ap, _∙_}
+use Rattle.rules.specs.Forms.{different}
+use Rattle.root_file.specs.View.{viewKeysAt}
+use Rattle.root_file.proofs.KeepLaws.{nothing}
+use Rattle.root_file.proofs.TableLaws.{publics, no-table, table-is}
 use Rattle.root_file.proofs.keys_at.Statement.{statement}
 use Rattle.root_file.proofs.keys_at.Tie as tie
 use Rattle.root_file.proofs.keys_at.Reads as reads
@@ -17,7 +23,8 @@ no-keys-requires c κs = search needs
 
 -- src/lib.rt:186:9
 returns : tie.Need-returns
-returns c = ?
+unfolding viewKeysAt
+returns c = λ v h. nothing _ (c .no-keys .ensures) (no-table v _ _ ((c .before .before .before) .table-at .ensures v h) (not-true _ ((c .before) .if1 .taken)))
 
 -- src/lib.rt:189:9
 publics-differ-requires : tie.Need-publics-differ-requires
@@ -25,7 +32,8 @@ publics-differ-requires c κs = search needs
 
 -- src/lib.rt:181:1
 returns-2 : tie.Need-returns-2
-returns-2 c = ?
+unfolding viewKeysAt
+returns-2 c = λ v h. table-is v _ _ ((c .before .before .before .before) .table-at .ensures v h) (not-false _ ((c .before .before) .if1 .left)) _ (c .publics-differ .ensures ∙ ap different (sym (publics ((c .before .before .before .before) .table-at .result .table))))
 
 pub keys-at-spec : {M : Type 1} → statement M
 keys-at-spec =

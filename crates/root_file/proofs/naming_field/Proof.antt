@@ -1,4 +1,7 @@
 use borrow.Author.Needs.{needs}
+use Rattle.forms.proofs.StepLaws.{must-none, must-at}
+use Rattle.root_file.specs.View.{viewNamingAt}
+use Rattle.root_file.proofs.KeepLaws.{cut}
 use Rattle.root_file.proofs.naming_field.Statement.{statement}
 use Rattle.root_file.proofs.naming_field.Tie as tie
 use Rattle.root_file.proofs.naming_field.Reads as reads
@@ -25,7 +28,8 @@ no-naming-requires c κs = search needs
 
 -- src/lib.rt:276:13
 returns : tie.Need-returns
-returns c = ?
+unfolding viewNamingAt
+returns c = must-none _ _ _ ((c .before .before .before) .find-member .ensures) _ _ ((c .before) .enum-told .given .1) (cut _ (c .no-naming .ensures))
 
 -- src/lib.rt:278:19
 enum-known-x : tie.Need-enum-known-x
@@ -37,7 +41,7 @@ naming-at-requires c κs = search needs
 
 -- src/lib.rt:279:13
 returns-2 : tie.Need-returns-2
-returns-2 c = ?
+returns-2 c = must-at _ _ _ ((c .before .before .before .before) .find-member .ensures) _ _ _ ((c .before .before) .x .given .1) (c .naming-at .ensures)
 
 pub naming-field-spec : {M : Type 1} → statement M
 naming-field-spec =

@@ -1,4 +1,11 @@
 use borrow.Author.Needs.{needs}
+use borrow.Author.Tests.{not-true, not-false}
+use mathlib.Core.Path.{refl, sym, ap, _∙_}
+use Rattle.lookup.specs.Leaves.{viewNumber}
+use Rattle.records.specs.View.{viewRole}
+use Rattle.root_file.specs.View.{viewNamingAt, viewRoleAt}
+use Rattle.root_file.proofs.KeepLaws.{nothing, whole}
+use Rattle.root_file.proofs.RoleLaws.{no-naming, no-threshold, role-is}
 use Rattle.root_file.proofs.role_at.Statement.{statement}
 use Rattle.root_file.proofs.role_at.Tie as tie
 use Rattle.root_file.proofs.role_at.Reads as reads
@@ -17,7 +24,8 @@ no-role-requires c κs = search needs
 
 -- src/lib.rt:307:9
 returns : tie.Need-returns
-returns c = ?
+unfolding viewRoleAt viewRole viewNamingAt
+returns c = λ v h. nothing _ (c .no-role .ensures) (no-naming _ v _ _ ((c .before .before .before) .naming-field .ensures v h) (not-true _ ((c .before) .if1 .taken)))
 
 -- src/lib.rt:309:38
 slice-aggregate-number-field : tie.Need-slice-aggregate-number-field
@@ -37,7 +45,8 @@ no-role-requires-2 c κs = search needs
 
 -- src/lib.rt:311:13
 returns-2 : tie.Need-returns-2
-returns-2 c = ?
+unfolding viewRoleAt viewRole viewNamingAt
+returns-2 c = λ v h. nothing _ (c .no-role2 .ensures) (no-threshold _ v _ _ ((c .before .before .before .before .before .before .before) .naming-field .ensures v h) (not-false _ ((c .before .before .before .before .before) .if1 .left)) (ap viewNumber (sym ((c .before) .enum-told .given .1)) ∙ (c .before .before .before) .number-field .ensures v h))
 
 -- src/lib.rt:313:20
 enum-known-threshold : tie.Need-enum-known-threshold
@@ -45,7 +54,8 @@ enum-known-threshold c = search needs
 
 -- src/lib.rt:314:13
 returns-3 : tie.Need-returns-3
-returns-3 c = ?
+unfolding viewRoleAt viewRole viewNamingAt
+returns-3 c = λ v h. whole _ refl ∙ role-is _ v _ _ ((c .before .before .before .before .before .before .before) .naming-field .ensures v h) (not-false _ ((c .before .before .before .before .before) .if1 .left)) _ (ap viewNumber (sym ((c .before) .threshold .given .1)) ∙ (c .before .before .before) .number-field .ensures v h)
 
 pub role-at-spec : {M : Type 1} → statement M
 role-at-spec =

@@ -1,4 +1,7 @@
 use borrow.Author.Needs.{needs}
+use Rattle.forms.proofs.StepLaws.{must-none, must-at}
+use Rattle.root_file.specs.View.{viewRoleAt}
+use Rattle.root_file.proofs.KeepLaws.{cut}
 use Rattle.root_file.proofs.role_field.Statement.{statement}
 use Rattle.root_file.proofs.role_field.Tie as tie
 use Rattle.root_file.proofs.role_field.Reads as reads
@@ -21,7 +24,8 @@ no-role-requires c κs = search needs
 
 -- src/lib.rt:330:13
 returns : tie.Need-returns
-returns c = ?
+unfolding viewRoleAt
+returns c = must-none _ _ _ ((c .before .before .before) .find-member .ensures) _ _ ((c .before) .enum-told .given .1) (cut _ (c .no-role .ensures))
 
 -- src/lib.rt:332:19
 enum-known-x : tie.Need-enum-known-x
@@ -33,7 +37,7 @@ role-at-requires c κs = search needs
 
 -- src/lib.rt:333:13
 returns-2 : tie.Need-returns-2
-returns-2 c = ?
+returns-2 c = must-at _ _ _ ((c .before .before .before .before) .find-member .ensures) _ _ _ ((c .before .before) .x .given .1) (c .role-at .ensures)
 
 pub role-field-spec : {M : Type 1} → statement M
 role-field-spec =

@@ -1,4 +1,7 @@
 use borrow.Author.Needs.{needs}
+use Rattle.forms.proofs.StepLaws.{must-none, must-at}
+use Rattle.root_file.specs.View.{viewRolesAt}
+use Rattle.root_file.proofs.KeepLaws.{cut}
 use Rattle.root_file.proofs.roles_field.Statement.{statement}
 use Rattle.root_file.proofs.roles_field.Tie as tie
 use Rattle.root_file.proofs.roles_field.Reads as reads
@@ -25,7 +28,8 @@ no-roles-requires c κs = search needs
 
 -- src/lib.rt:397:13
 returns : tie.Need-returns
-returns c = ?
+unfolding viewRolesAt
+returns c = must-none _ _ _ ((c .before .before .before) .find-member .ensures) _ _ ((c .before) .enum-told .given .1) (cut _ (c .no-roles .ensures))
 
 -- src/lib.rt:399:19
 enum-known-x : tie.Need-enum-known-x
@@ -37,7 +41,7 @@ roles-at-requires c κs = search needs
 
 -- src/lib.rt:400:13
 returns-2 : tie.Need-returns-2
-returns-2 c = ?
+returns-2 c = must-at _ _ _ ((c .before .before .before .before) .find-member .ensures) _ _ _ ((c .before .before) .x .given .1) (c .roles-at .ensures)
 
 pub roles-field-spec : {M : Type 1} → statement M
 roles-field-spec =

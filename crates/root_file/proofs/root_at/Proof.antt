@@ -1,4 +1,8 @@
 use borrow.Author.Needs.{needs}
+use borrow.Author.Tests.{not-true, not-false}
+use Rattle.root_file.specs.View.{viewKeysAt, viewRolesAt, viewRootAt}
+use Rattle.root_file.proofs.KeepLaws.{nothing}
+use Rattle.root_file.proofs.BodyLaws.{no-truth, no-keys, body-is}
 use Rattle.root_file.proofs.root_at.Statement.{statement}
 use Rattle.root_file.proofs.root_at.Tie as tie
 use Rattle.root_file.proofs.root_at.Reads as reads
@@ -18,7 +22,8 @@ no-root-requires c κs = search needs
 
 -- src/lib.rt:459:9
 returns : tie.Need-returns
-returns c = ?
+unfolding viewRootAt
+returns c = λ v h. nothing _ (c .no-root .ensures) (no-truth v _ ((c .before .before) .has-snapshot-rule .ensures v h) (not-true _ ((c .before) .if1 .taken)))
 
 -- src/lib.rt:461:9
 keys-field-requires : tie.Need-keys-field-requires
@@ -30,7 +35,8 @@ no-root-requires-2 c κs = search needs
 
 -- src/lib.rt:463:9
 returns-2 : tie.Need-returns-2
-returns-2 c = ?
+unfolding viewRootAt viewKeysAt
+returns-2 c = λ v h. nothing _ (c .no-root2 .ensures) (no-keys v _ ((c .before .before .before .before .before) .has-snapshot-rule .ensures v h) (not-false _ ((c .before .before .before .before) .if1 .left)) _ _ ((c .before .before .before) .keys-field .ensures v h) (not-true _ ((c .before) .if2 .taken)))
 
 -- src/lib.rt:466:9
 roles-field-requires : tie.Need-roles-field-requires
@@ -38,7 +44,8 @@ roles-field-requires c κs = search needs
 
 -- src/lib.rt:455:1
 returns-3 : tie.Need-returns-3
-returns-3 c = ?
+unfolding viewRootAt viewKeysAt viewRolesAt
+returns-3 c = λ v h. body-is v _ ((c .before .before .before .before .before .before .before .before .before .before) .has-snapshot-rule .ensures v h) (not-false _ ((c .before .before .before .before .before .before .before .before .before) .if1 .left)) _ _ ((c .before .before .before .before .before .before .before .before) .keys-field .ensures v h) (not-false _ ((c .before .before .before .before .before .before) .if2 .left)) _ _ ((c .before .before .before .before) .roles-field .ensures v h)
 
 pub root-at-spec : {M : Type 1} → statement M
 root-at-spec =
