@@ -18,7 +18,7 @@ use Rattle.rules.specs.Forms.{role, root}
 use Rattle.rules.specs.State.{keepRole}
 use Rattle.forms.proofs.ListedLaws.{keep-in}
 use Rattle.forms.proofs.StepLaws.{stop, on}
-use Rattle.root_file.specs.Body.{keyidsIn, roleKept, Roles, rolesKept, Body, keepBody, rootKept, isTruth}
+use Rattle.root_file.specs.Body.{keyidsIn, roleKept, Roles, rolesKept, keepBody, rootKept, isTruth}
 
 -- ## true or false
 

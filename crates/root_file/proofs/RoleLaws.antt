@@ -1,10 +1,9 @@
 -- A role: its keyids gathered one after the other, and then the threshold.
-use mathlib.Core.Path.{_≡_, refl, sym, ap, _∙_}
+use mathlib.Core.Path.{_≡_, refl, sym, _∙_}
 use mathlib.Core.Option.{Option, none, some, bind}
-use mathlib.Core.Bool.{Bool, true, false, not, _&&_, and-false}
+use mathlib.Core.Bool.{Bool, true, false, _&&_, and-false}
 use mathlib.Core.List.{List, [], _∷_, _++_}
-use Prim.Native.Nat.{ℕ, zero, suc, _+_, _^_, _<_, _≤_, min}
-use native.Mathlib.Omega.{arith}
+use Prim.Native.Nat.{ℕ, _+_, _^_, _<_, _≤_, min}
 use lib.Bits.{bitAnd, bitOr}
 use lib.Dec.{leb}
 use lib.ListN.{length, length-append}
@@ -19,7 +18,7 @@ use Rattle.lookup.proofs.ItemLaws.{item-stands}
 use Rattle.rules.specs.Limits.{maxKeys, maxKeyids, keySize}
 use Rattle.rules.specs.Take.{_>>=_, must, each, hex}
 use Rattle.rules.specs.Records.{Key, Role}
-use Rattle.rules.specs.Forms.{isIn, different, allOf, role}
+use Rattle.rules.specs.Forms.{different, role}
 use Rattle.rules.specs.State.{keepRole}
 use Rattle.records.specs.declared.KeyTable.{KeyTable}
 use Rattle.records.specs.View.{viewTable, pick}
@@ -64,9 +63,6 @@ module _ (t : KeyTable) (s : Bytes) (v : Json) where
       go false = refl
 
   module _ (bits n : ℕ) (e : Element) (g : Gathered t s v bits n e) where
-    walked : ItemsWalk (hex keySize) 1 maxKeyids s e n (g .ids) (eachItem 1 maxKeyids (hex keySize) v)
-    walked = g .walk
-
     pub no-keyids : e ≡ element.NoArray → none ≡ naming (viewTable t) v
     no-keyids q = whole-none (items-none (hex keySize) 1 maxKeyids s e n (g .ids) _ (g .walk) q)
 

@@ -1,3 +1,4 @@
+-- `has_public`: the public values from place j on decide.
 use borrow.Author.Needs.{needs}
 use native.Mathlib.Omega.{arith}
 use Prim.Native.Nat.{_-_}
@@ -8,10 +9,6 @@ use Rattle.root_file.specs.View.{publicsFrom}
 use Rattle.root_file.proofs.TableLaws.{public-hit, public-skip, public-end}
 use Rattle.root_file.proofs.has_public.Statement.{statement}
 use Rattle.root_file.proofs.has_public.Tie as tie
-use Rattle.root_file.proofs.has_public.Reads as reads
-use Rattle.root_file.proofs.has_public.Lts as lts
-use Rattle.keys.proofs.same_id.Reads as same-id-reads
-use Rattle.records.proofs.at_most.Reads as at-most-reads
 
 abbrev Inv-loop : tie.InvT-loop
 Inv-loop public i table n j₀ j = isIn (viewId public) (publicsFrom table i) ≡ isIn (viewId public) (publicsFrom table j)
@@ -19,45 +16,35 @@ Inv-loop public i table n j₀ j = isIn (viewId public) (publicsFrom table i) �
 abbrev μ-loop : tie.MeasureT-loop
 μ-loop public i table n j₀ j = n - j
 
--- src/lib.rt:153:9
 at-most-requires : tie.Need-at-most-requires Inv-loop μ-loop
 at-most-requires c κs = search needs
 
--- src/lib.rt:155:5
 loop-holds : tie.Need-loop-holds Inv-loop μ-loop
 loop-holds c = refl
 
--- src/lib.rt:156:19
 mul-key : tie.Need-mul-key Inv-loop μ-loop
 mul-key c = omega arith
 
--- src/lib.rt:156:19
 element-copy-out-key : tie.Need-element-copy-out-key Inv-loop μ-loop
 element-copy-out-key c = omega arith
 
--- src/lib.rt:157:12
 same-id-requires : tie.Need-same-id-requires Inv-loop μ-loop
 same-id-requires c κs = search needs
 
--- src/lib.rt:158:13
 returns : tie.Need-returns Inv-loop μ-loop
 unfolding keyAt
 returns c = let l = (c .before .before .before .before) .loop in public-hit _ (l .j) _ (omega arith) (sym (c .if1 .taken) ∙ (c .before) .same-id .ensures) ∙ sym (l .inv)
 
--- src/lib.rt:160:9
 add-j : tie.Need-add-j Inv-loop μ-loop
 add-j c = omega arith
 
--- src/lib.rt:155:5
 loop-less : tie.Need-loop-less Inv-loop μ-loop
 loop-less c = omega arith
 
--- src/lib.rt:155:5
 loop-again : tie.Need-loop-again Inv-loop μ-loop
 unfolding keyAt
 loop-again c = let l = (c .before .before .before .before) .loop in l .inv ∙ public-skip _ (l .j) _ (omega arith) (sym (c .if1 .left) ∙ (c .before) .same-id .ensures)
 
--- src/lib.rt:150:1
 returns-2 : tie.Need-returns-2 Inv-loop μ-loop
 returns-2 c = let l = (c .before) .loop in public-end _ (l .j) _ (omega arith) ∙ sym (l .inv)
 

@@ -1,55 +1,41 @@
+-- `has_snapshot_rule` meets its contract.
 use borrow.Author.Needs.{needs}
 use mathlib.Core.Path.{refl, sym, ap, _∙_}
 use Rattle.forms.proofs.StepLaws.{must-none, must-at}
-use mathlib.Core.Option.{bind}
 use Rattle.json.specs.Fields.{keep}
 use Rattle.lookup.specs.Leaves.{viewTruth}
 use Rattle.root_file.proofs.BodyLaws.{truth-not, truth-said}
 use Rattle.root_file.proofs.has_snapshot_rule.Statement.{statement}
 use Rattle.root_file.proofs.has_snapshot_rule.Tie as tie
-use Rattle.root_file.proofs.has_snapshot_rule.Reads as reads
-use Rattle.root_file.proofs.has_snapshot_rule.Lts as lts
-use Rattle.lookup.proofs.find_member.Reads as find-member-reads
-use Rattle.lookup.proofs.truth_at.Reads as truth-at-reads
 
--- src/lib.rt:411:38
 slice-aggregate-find-member : tie.Need-slice-aggregate-find-member
 slice-aggregate-find-member c = search needs
 
--- src/lib.rt:411:11
 find-member-requires : tie.Need-find-member-requires
 find-member-requires c κs = search needs
 
--- src/lib.rt:413:13
 enum-told : tie.Need-enum-told
 enum-told c = search needs
 
--- src/lib.rt:413:13
 returns : tie.Need-returns
 unfolding keep
 returns c = must-none _ _ _ ((c .before .before) .find-member .ensures) _ _ (c .enum-told .given .1) refl
 
--- src/lib.rt:415:19
 enum-known-x : tie.Need-enum-known-x
 enum-known-x c = search needs
 
--- src/lib.rt:415:31
 truth-at-requires : tie.Need-truth-at-requires
 truth-at-requires c κs = search needs
 
--- src/lib.rt:417:17
 enum-told-2 : tie.Need-enum-told-2
 enum-told-2 c = search needs
 
--- src/lib.rt:417:17
 returns-2 : tie.Need-returns-2
 returns-2 c = must-at _ _ _ ((c .before .before .before .before .before .before) .find-member .ensures) _ _ _ ((c .before .before .before .before) .x .given .1) (truth-not _ _ (ap viewTruth (sym (c .enum-told2 .given .1)) ∙ (c .before .before) .truth-at .ensures))
 
--- src/lib.rt:420:17
 enum-told-3 : tie.Need-enum-told-3
 enum-told-3 c = search needs
 
--- src/lib.rt:420:17
 returns-3 : tie.Need-returns-3
 returns-3 c = must-at _ _ _ ((c .before .before .before .before .before .before) .find-member .ensures) _ _ _ ((c .before .before .before .before) .x .given .1) (truth-said _ _ _ (ap viewTruth (sym (c .enum-told3 .given .1)) ∙ (c .before .before) .truth-at .ensures))
 

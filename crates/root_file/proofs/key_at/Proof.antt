@@ -1,3 +1,4 @@
+-- `key_at` meets its contract, step by step of the form.
 use borrow.Author.Needs.{needs}
 use borrow.Author.Tests.{not-true, not-false}
 use Rattle.root_file.proofs.KeepLaws.{nothing}
@@ -7,73 +8,52 @@ use Rattle.root_file.specs.View.{viewKeyAt}
 use Rattle.root_file.proofs.KeyLaws.{no-keyid, no-keytype, no-scheme, key-is}
 use Rattle.root_file.proofs.key_at.Statement.{statement}
 use Rattle.root_file.proofs.key_at.Tie as tie
-use Rattle.root_file.proofs.key_at.Reads as reads
-use Rattle.root_file.proofs.key_at.Lts as lts
-use Rattle.forms.proofs.id_in.Reads as id-in-reads
-use Rattle.forms.proofs.word_field.Reads as word-field-reads
-use Rattle.root_file.proofs.no_key.Reads as no-key-reads
-use Rattle.root_file.proofs.public_at.Reads as public-at-reads
 
--- src/lib.rt:69:9
 id-in-requires : tie.Need-id-in-requires
 id-in-requires c κs = search needs
 
--- src/lib.rt:71:9
 no-key-requires : tie.Need-no-key-requires
 no-key-requires c κs = search needs
 
--- src/lib.rt:71:9
 returns : tie.Need-returns
 unfolding viewKeyAt viewKey viewIdAt
 returns c = λ v h. nothing _ (c .no-key .ensures) (no-keyid _ v _ _ ((c .before .before .before) .id-in .ensures) (not-true _ ((c .before) .if1 .taken)))
 
--- src/lib.rt:73:37
 slice-aggregate-word-field : tie.Need-slice-aggregate-word-field
 slice-aggregate-word-field c = search needs
 
--- src/lib.rt:73:49
 slice-aggregate-word-field-2 : tie.Need-slice-aggregate-word-field-2
 slice-aggregate-word-field-2 c = search needs
 
--- src/lib.rt:73:9
 word-field-requires : tie.Need-word-field-requires
 word-field-requires c κs = search needs
 
--- src/lib.rt:74:9
 no-key-requires-2 : tie.Need-no-key-requires-2
 no-key-requires-2 c κs = search needs
 
--- src/lib.rt:74:9
 returns-2 : tie.Need-returns-2
 unfolding viewKeyAt viewKey viewIdAt
 returns-2 c = λ v h. nothing _ (c .no-key2 .ensures) (no-keytype _ v _ _ ((c .before .before .before .before .before .before .before) .id-in .ensures) (not-false _ ((c .before .before .before .before .before) .if1 .left)) _ ((c .before .before) .word-field .ensures v h) (not-true _ ((c .before) .if2 .taken)))
 
--- src/lib.rt:76:37
 slice-aggregate-word-field-3 : tie.Need-slice-aggregate-word-field-3
 slice-aggregate-word-field-3 c = search needs
 
--- src/lib.rt:76:48
 slice-aggregate-word-field-4 : tie.Need-slice-aggregate-word-field-4
 slice-aggregate-word-field-4 c = search needs
 
--- src/lib.rt:76:9
 word-field-requires-2 : tie.Need-word-field-requires-2
 word-field-requires-2 c κs = search needs
 
--- src/lib.rt:77:9
 no-key-requires-3 : tie.Need-no-key-requires-3
 no-key-requires-3 c κs = search needs
 
--- src/lib.rt:77:9
 returns-3 : tie.Need-returns-3
 unfolding viewKeyAt viewKey viewIdAt
 returns-3 c = λ v h. nothing _ (c .no-key3 .ensures) (no-scheme _ v _ _ ((c .before .before .before .before .before .before .before .before .before .before .before) .id-in .ensures) (not-false _ ((c .before .before .before .before .before .before .before .before .before) .if1 .left)) _ ((c .before .before .before .before .before .before) .word-field .ensures v h) (not-false _ ((c .before .before .before .before .before) .if2 .left)) _ ((c .before .before) .word-field2 .ensures v h) (not-true _ ((c .before) .if3 .taken)))
 
--- src/lib.rt:79:9
 public-at-requires : tie.Need-public-at-requires
 public-at-requires c κs = search needs
 
--- src/lib.rt:66:1
 returns-4 : tie.Need-returns-4
 unfolding viewKeyAt viewKey viewIdAt
 returns-4 c = λ v h. key-is _ v _ _ ((c .before .before .before .before .before .before .before .before .before .before .before .before .before) .id-in .ensures) (not-false _ ((c .before .before .before .before .before .before .before .before .before .before .before) .if1 .left)) _ ((c .before .before .before .before .before .before .before .before) .word-field .ensures v h) (not-false _ ((c .before .before .before .before .before .before .before) .if2 .left)) _ ((c .before .before .before .before) .word-field2 .ensures v h) (not-false _ ((c .before .before .before) .if3 .left)) _ _ ((c .before .before) .public-at .ensures v h)

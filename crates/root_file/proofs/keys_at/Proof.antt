@@ -1,3 +1,4 @@
+-- `keys_at` meets its contract.
 use borrow.Author.Needs.{needs}
 use borrow.Author.Tests.{not-true, not-false}
 use mathlib.Core.Path.{sym, ap, _∙_}
@@ -7,30 +8,20 @@ use Rattle.root_file.proofs.KeepLaws.{nothing}
 use Rattle.root_file.proofs.TableLaws.{publics, no-table, table-is}
 use Rattle.root_file.proofs.keys_at.Statement.{statement}
 use Rattle.root_file.proofs.keys_at.Tie as tie
-use Rattle.root_file.proofs.keys_at.Reads as reads
-use Rattle.root_file.proofs.keys_at.Lts as lts
-use Rattle.root_file.proofs.no_keys.Reads as no-keys-reads
-use Rattle.root_file.proofs.publics_differ.Reads as publics-differ-reads
-use Rattle.root_file.proofs.table_at.Reads as table-at-reads
 
--- src/lib.rt:184:9
 table-at-requires : tie.Need-table-at-requires
 table-at-requires c κs = search needs
 
--- src/lib.rt:186:9
 no-keys-requires : tie.Need-no-keys-requires
 no-keys-requires c κs = search needs
 
--- src/lib.rt:186:9
 returns : tie.Need-returns
 unfolding viewKeysAt
 returns c = λ v h. nothing _ (c .no-keys .ensures) (no-table v _ _ ((c .before .before .before) .table-at .ensures v h) (not-true _ ((c .before) .if1 .taken)))
 
--- src/lib.rt:189:9
 publics-differ-requires : tie.Need-publics-differ-requires
 publics-differ-requires c κs = search needs
 
--- src/lib.rt:181:1
 returns-2 : tie.Need-returns-2
 unfolding viewKeysAt
 returns-2 c = λ v h. table-is v _ _ ((c .before .before .before .before) .table-at .ensures v h) (not-false _ ((c .before .before) .if1 .left)) _ (c .publics-differ .ensures ∙ ap different (sym (publics ((c .before .before .before .before) .table-at .result .table))))

@@ -1,45 +1,33 @@
+-- `keys_field` meets its contract.
 use borrow.Author.Needs.{needs}
 use Rattle.forms.proofs.StepLaws.{must-none, must-at}
 use Rattle.root_file.specs.View.{viewKeysAt}
 use Rattle.root_file.proofs.KeepLaws.{cut}
 use Rattle.root_file.proofs.keys_field.Statement.{statement}
 use Rattle.root_file.proofs.keys_field.Tie as tie
-use Rattle.root_file.proofs.keys_field.Reads as reads
-use Rattle.root_file.proofs.keys_field.Lts as lts
-use Rattle.lookup.proofs.find_member.Reads as find-member-reads
-use Rattle.root_file.proofs.keys_at.Reads as keys-at-reads
-use Rattle.root_file.proofs.no_keys.Reads as no-keys-reads
 
--- src/lib.rt:196:38
 slice-aggregate-find-member : tie.Need-slice-aggregate-find-member
 slice-aggregate-find-member c = search needs
 
--- src/lib.rt:196:11
 find-member-requires : tie.Need-find-member-requires
 find-member-requires c κs = search needs
 
--- src/lib.rt:198:13
 enum-told : tie.Need-enum-told
 enum-told c = search needs
 
--- src/lib.rt:198:13
 no-keys-requires : tie.Need-no-keys-requires
 no-keys-requires c κs = search needs
 
--- src/lib.rt:198:13
 returns : tie.Need-returns
 unfolding viewKeysAt
 returns c = must-none _ _ _ ((c .before .before .before) .find-member .ensures) _ _ ((c .before) .enum-told .given .1) (cut _ (c .no-keys .ensures))
 
--- src/lib.rt:200:19
 enum-known-x : tie.Need-enum-known-x
 enum-known-x c = search needs
 
--- src/lib.rt:201:13
 keys-at-requires : tie.Need-keys-at-requires
 keys-at-requires c κs = search needs
 
--- src/lib.rt:201:13
 returns-2 : tie.Need-returns-2
 returns-2 c = must-at _ _ _ ((c .before .before .before .before) .find-member .ensures) _ _ _ ((c .before .before) .x .given .1) (c .keys-at .ensures)
 

@@ -1,45 +1,33 @@
+-- `naming_field` meets its contract.
 use borrow.Author.Needs.{needs}
 use Rattle.forms.proofs.StepLaws.{must-none, must-at}
 use Rattle.root_file.specs.View.{viewNamingAt}
 use Rattle.root_file.proofs.KeepLaws.{cut}
 use Rattle.root_file.proofs.naming_field.Statement.{statement}
 use Rattle.root_file.proofs.naming_field.Tie as tie
-use Rattle.root_file.proofs.naming_field.Reads as reads
-use Rattle.root_file.proofs.naming_field.Lts as lts
-use Rattle.lookup.proofs.find_member.Reads as find-member-reads
-use Rattle.root_file.proofs.naming_at.Reads as naming-at-reads
-use Rattle.root_file.proofs.no_naming.Reads as no-naming-reads
 
--- src/lib.rt:274:38
 slice-aggregate-find-member : tie.Need-slice-aggregate-find-member
 slice-aggregate-find-member c = search needs
 
--- src/lib.rt:274:11
 find-member-requires : tie.Need-find-member-requires
 find-member-requires c κs = search needs
 
--- src/lib.rt:276:13
 enum-told : tie.Need-enum-told
 enum-told c = search needs
 
--- src/lib.rt:276:13
 no-naming-requires : tie.Need-no-naming-requires
 no-naming-requires c κs = search needs
 
--- src/lib.rt:276:13
 returns : tie.Need-returns
 unfolding viewNamingAt
 returns c = must-none _ _ _ ((c .before .before .before) .find-member .ensures) _ _ ((c .before) .enum-told .given .1) (cut _ (c .no-naming .ensures))
 
--- src/lib.rt:278:19
 enum-known-x : tie.Need-enum-known-x
 enum-known-x c = search needs
 
--- src/lib.rt:279:13
 naming-at-requires : tie.Need-naming-at-requires
 naming-at-requires c κs = search needs
 
--- src/lib.rt:279:13
 returns-2 : tie.Need-returns-2
 returns-2 c = must-at _ _ _ ((c .before .before .before .before) .find-member .ensures) _ _ _ ((c .before .before) .x .given .1) (c .naming-at .ensures)
 

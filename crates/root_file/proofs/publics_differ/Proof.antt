@@ -1,3 +1,4 @@
+-- `publics_differ`: the public values from place i on decide.
 use borrow.Author.Needs.{needs}
 use native.Mathlib.Omega.{arith}
 use Prim.Native.Nat.{_-_}
@@ -8,10 +9,6 @@ use Rattle.root_file.specs.View.{publicsFrom}
 use Rattle.root_file.proofs.TableLaws.{differ-not, differ-next, differ-end}
 use Rattle.root_file.proofs.publics_differ.Statement.{statement}
 use Rattle.root_file.proofs.publics_differ.Tie as tie
-use Rattle.root_file.proofs.publics_differ.Reads as reads
-use Rattle.root_file.proofs.publics_differ.Lts as lts
-use Rattle.records.proofs.at_most.Reads as at-most-reads
-use Rattle.root_file.proofs.has_public.Reads as has-public-reads
 
 abbrev Inv-loop : tie.InvT-loop
 Inv-loop table n i₀ i = different (publicsFrom table 0) ≡ different (publicsFrom table i)
@@ -19,49 +16,38 @@ Inv-loop table n i₀ i = different (publicsFrom table 0) ≡ different (publics
 abbrev μ-loop : tie.MeasureT-loop
 μ-loop table n i₀ i = n - i
 
--- src/lib.rt:169:9
 at-most-requires : tie.Need-at-most-requires Inv-loop μ-loop
 at-most-requires c κs = search needs
 
--- src/lib.rt:171:5
 loop-holds : tie.Need-loop-holds Inv-loop μ-loop
 loop-holds c = refl
 
--- src/lib.rt:172:19
 mul-key : tie.Need-mul-key Inv-loop μ-loop
 mul-key c = omega arith
 
--- src/lib.rt:172:19
 element-copy-out-key : tie.Need-element-copy-out-key Inv-loop μ-loop
 element-copy-out-key c = omega arith
 
--- src/lib.rt:173:42
 add-has-public : tie.Need-add-has-public Inv-loop μ-loop
 add-has-public c = omega arith
 
--- src/lib.rt:173:12
 has-public-requires : tie.Need-has-public-requires Inv-loop μ-loop
 has-public-requires c κs = search needs
 
--- src/lib.rt:174:13
 returns : tie.Need-returns Inv-loop μ-loop
 unfolding keyAt
 returns c = let l = (c .before .before .before .before) .loop in differ-not _ (l .i) (omega arith) (sym (c .if1 .taken) ∙ (c .before) .has-public .ensures) ∙ sym (l .inv)
 
--- src/lib.rt:176:9
 add-i : tie.Need-add-i Inv-loop μ-loop
 add-i c = omega arith
 
--- src/lib.rt:171:5
 loop-less : tie.Need-loop-less Inv-loop μ-loop
 loop-less c = omega arith
 
--- src/lib.rt:171:5
 loop-again : tie.Need-loop-again Inv-loop μ-loop
 unfolding keyAt
 loop-again c = let l = (c .before .before .before .before) .loop in l .inv ∙ differ-next _ (l .i) (omega arith) (sym (c .if1 .left) ∙ (c .before) .has-public .ensures)
 
--- src/lib.rt:166:1
 returns-2 : tie.Need-returns-2 Inv-loop μ-loop
 returns-2 c = let l = (c .before) .loop in differ-end _ (l .i) (omega arith) ∙ sym (l .inv)
 

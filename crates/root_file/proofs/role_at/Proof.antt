@@ -1,3 +1,4 @@
+-- `role_at` meets its contract.
 use borrow.Author.Needs.{needs}
 use borrow.Author.Tests.{not-true, not-false}
 use mathlib.Core.Path.{refl, sym, ap, _∙_}
@@ -8,51 +9,36 @@ use Rattle.root_file.proofs.KeepLaws.{nothing, whole}
 use Rattle.root_file.proofs.RoleLaws.{no-naming, no-threshold, role-is}
 use Rattle.root_file.proofs.role_at.Statement.{statement}
 use Rattle.root_file.proofs.role_at.Tie as tie
-use Rattle.root_file.proofs.role_at.Reads as reads
-use Rattle.root_file.proofs.role_at.Lts as lts
-use Rattle.forms.proofs.number_field.Reads as number-field-reads
-use Rattle.root_file.proofs.naming_field.Reads as naming-field-reads
-use Rattle.root_file.proofs.no_role.Reads as no-role-reads
 
--- src/lib.rt:305:9
 naming-field-requires : tie.Need-naming-field-requires
 naming-field-requires c κs = search needs
 
--- src/lib.rt:307:9
 no-role-requires : tie.Need-no-role-requires
 no-role-requires c κs = search needs
 
--- src/lib.rt:307:9
 returns : tie.Need-returns
 unfolding viewRoleAt viewRole viewNamingAt
 returns c = λ v h. nothing _ (c .no-role .ensures) (no-naming _ v _ _ ((c .before .before .before) .naming-field .ensures v h) (not-true _ ((c .before) .if1 .taken)))
 
--- src/lib.rt:309:38
 slice-aggregate-number-field : tie.Need-slice-aggregate-number-field
 slice-aggregate-number-field c = search needs
 
--- src/lib.rt:309:11
 number-field-requires : tie.Need-number-field-requires
 number-field-requires c κs = search needs
 
--- src/lib.rt:311:13
 enum-told : tie.Need-enum-told
 enum-told c = search needs
 
--- src/lib.rt:311:13
 no-role-requires-2 : tie.Need-no-role-requires-2
 no-role-requires-2 c κs = search needs
 
--- src/lib.rt:311:13
 returns-2 : tie.Need-returns-2
 unfolding viewRoleAt viewRole viewNamingAt
 returns-2 c = λ v h. nothing _ (c .no-role2 .ensures) (no-threshold _ v _ _ ((c .before .before .before .before .before .before .before) .naming-field .ensures v h) (not-false _ ((c .before .before .before .before .before) .if1 .left)) (ap viewNumber (sym ((c .before) .enum-told .given .1)) ∙ (c .before .before .before) .number-field .ensures v h))
 
--- src/lib.rt:313:20
 enum-known-threshold : tie.Need-enum-known-threshold
 enum-known-threshold c = search needs
 
--- src/lib.rt:314:13
 returns-3 : tie.Need-returns-3
 unfolding viewRoleAt viewRole viewNamingAt
 returns-3 c = λ v h. whole _ refl ∙ role-is _ v _ _ ((c .before .before .before .before .before .before .before) .naming-field .ensures v h) (not-false _ ((c .before .before .before .before .before) .if1 .left)) _ (ap viewNumber (sym ((c .before) .threshold .given .1)) ∙ (c .before .before .before) .number-field .ensures v h)

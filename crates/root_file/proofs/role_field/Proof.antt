@@ -1,41 +1,30 @@
+-- `role_field` meets its contract.
 use borrow.Author.Needs.{needs}
 use Rattle.forms.proofs.StepLaws.{must-none, must-at}
 use Rattle.root_file.specs.View.{viewRoleAt}
 use Rattle.root_file.proofs.KeepLaws.{cut}
 use Rattle.root_file.proofs.role_field.Statement.{statement}
 use Rattle.root_file.proofs.role_field.Tie as tie
-use Rattle.root_file.proofs.role_field.Reads as reads
-use Rattle.root_file.proofs.role_field.Lts as lts
-use Rattle.lookup.proofs.find_member.Reads as find-member-reads
-use Rattle.root_file.proofs.no_role.Reads as no-role-reads
-use Rattle.root_file.proofs.role_at.Reads as role-at-reads
 
--- src/lib.rt:328:11
 find-member-requires : tie.Need-find-member-requires
 find-member-requires c κs = search needs
 
--- src/lib.rt:330:13
 enum-told : tie.Need-enum-told
 enum-told c = search needs
 
--- src/lib.rt:330:13
 no-role-requires : tie.Need-no-role-requires
 no-role-requires c κs = search needs
 
--- src/lib.rt:330:13
 returns : tie.Need-returns
 unfolding viewRoleAt
 returns c = must-none _ _ _ ((c .before .before .before) .find-member .ensures) _ _ ((c .before) .enum-told .given .1) (cut _ (c .no-role .ensures))
 
--- src/lib.rt:332:19
 enum-known-x : tie.Need-enum-known-x
 enum-known-x c = search needs
 
--- src/lib.rt:333:13
 role-at-requires : tie.Need-role-at-requires
 role-at-requires c κs = search needs
 
--- src/lib.rt:333:13
 returns-2 : tie.Need-returns-2
 returns-2 c = must-at _ _ _ ((c .before .before .before .before) .find-member .ensures) _ _ _ ((c .before .before) .x .given .1) (c .role-at .ensures)
 

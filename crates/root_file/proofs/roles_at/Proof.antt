@@ -1,3 +1,4 @@
+-- `roles_at` meets its contract, role by role.
 use borrow.Author.Needs.{needs}
 use borrow.Author.Tests.{not-true, not-false}
 use Rattle.root_file.specs.View.{viewRoleAt, viewRolesAt}
@@ -5,71 +6,52 @@ use Rattle.root_file.proofs.KeepLaws.{nothing}
 use Rattle.root_file.proofs.BodyLaws.{no-root-role, no-timestamp-role, no-snapshot-role, roles-are}
 use Rattle.root_file.proofs.roles_at.Statement.{statement}
 use Rattle.root_file.proofs.roles_at.Tie as tie
-use Rattle.root_file.proofs.roles_at.Reads as reads
-use Rattle.root_file.proofs.roles_at.Lts as lts
-use Rattle.root_file.proofs.no_roles.Reads as no-roles-reads
-use Rattle.root_file.proofs.role_field.Reads as role-field-reads
 
--- src/lib.rt:366:34
 slice-aggregate-role-field : tie.Need-slice-aggregate-role-field
 slice-aggregate-role-field c = search needs
 
--- src/lib.rt:366:9
 role-field-requires : tie.Need-role-field-requires
 role-field-requires c κs = search needs
 
--- src/lib.rt:368:9
 no-roles-requires : tie.Need-no-roles-requires
 no-roles-requires c κs = search needs
 
--- src/lib.rt:368:9
 returns : tie.Need-returns
 unfolding viewRoleAt viewRolesAt
 returns c = λ v h. nothing _ (c .no-roles .ensures) (no-root-role _ v _ _ ((c .before .before .before) .role-field .ensures v h) (not-true _ ((c .before) .if1 .taken)))
 
--- src/lib.rt:370:39
 slice-aggregate-role-field-2 : tie.Need-slice-aggregate-role-field-2
 slice-aggregate-role-field-2 c = search needs
 
--- src/lib.rt:370:9
 role-field-requires-2 : tie.Need-role-field-requires-2
 role-field-requires-2 c κs = search needs
 
--- src/lib.rt:372:9
 no-roles-requires-2 : tie.Need-no-roles-requires-2
 no-roles-requires-2 c κs = search needs
 
--- src/lib.rt:372:9
 returns-2 : tie.Need-returns-2
 unfolding viewRoleAt viewRolesAt
 returns-2 c = λ v h. nothing _ (c .no-roles2 .ensures) (no-timestamp-role _ v _ _ ((c .before .before .before .before .before .before .before) .role-field .ensures v h) (not-false _ ((c .before .before .before .before .before) .if1 .left)) _ _ ((c .before .before .before) .role-field2 .ensures v h) (not-true _ ((c .before) .if2 .taken)))
 
--- src/lib.rt:374:38
 slice-aggregate-role-field-3 : tie.Need-slice-aggregate-role-field-3
 slice-aggregate-role-field-3 c = search needs
 
--- src/lib.rt:374:9
 role-field-requires-3 : tie.Need-role-field-requires-3
 role-field-requires-3 c κs = search needs
 
--- src/lib.rt:376:9
 no-roles-requires-3 : tie.Need-no-roles-requires-3
 no-roles-requires-3 c κs = search needs
 
--- src/lib.rt:376:9
 returns-3 : tie.Need-returns-3
 unfolding viewRoleAt viewRolesAt
 returns-3 c = λ v h. nothing _ (c .no-roles3 .ensures) (no-snapshot-role _ v _ _ ((c .before .before .before .before .before .before .before .before .before .before .before) .role-field .ensures v h) (not-false _ ((c .before .before .before .before .before .before .before .before .before) .if1 .left)) _ _ ((c .before .before .before .before .before .before .before) .role-field2 .ensures v h) (not-false _ ((c .before .before .before .before .before) .if2 .left)) _ _ ((c .before .before .before) .role-field3 .ensures v h) (not-true _ ((c .before) .if3 .taken)))
 
--- src/lib.rt:378:37
 slice-aggregate-role-field-4 : tie.Need-slice-aggregate-role-field-4
 slice-aggregate-role-field-4 c = search needs
 
--- src/lib.rt:378:9
 role-field-requires-4 : tie.Need-role-field-requires-4
 role-field-requires-4 c κs = search needs
 
--- src/lib.rt:363:1
 returns-4 : tie.Need-returns-4
 unfolding viewRoleAt viewRolesAt
 returns-4 c = λ v h. roles-are _ v _ _ ((c .before .before .before .before .before .before .before .before .before .before .before .before .before .before .before .before) .role-field .ensures v h) (not-false _ ((c .before .before .before .before .before .before .before .before .before .before .before .before .before .before) .if1 .left)) _ _ ((c .before .before .before .before .before .before .before .before .before .before .before .before) .role-field2 .ensures v h) (not-false _ ((c .before .before .before .before .before .before .before .before .before .before) .if2 .left)) _ _ ((c .before .before .before .before .before .before .before .before) .role-field3 .ensures v h) (not-false _ ((c .before .before .before .before .before .before) .if3 .left)) _ _ ((c .before .before .before .before) .role-field4 .ensures v h)
