@@ -4,3 +4,4 @@ pub mod TableLaws
 pub mod NamingLaws
 pub mod RoleLaws
 pub mod BodyLaws
+pub mod FileLaws

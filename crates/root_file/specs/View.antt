@@ -7,8 +7,10 @@ use Rattle.base.specs.Window.{run}
 use Rattle.json.specs.Fields.{keep}
 use Rattle.rules.specs.Limits.{maxKeys}
 use Rattle.rules.specs.Records as rules
+use Rattle.rules.specs.State as state
 use Rattle.records.specs.declared.KeyTable.{KeyTable}
-use Rattle.records.specs.View.{viewId, keyAt, viewKey, viewTable, viewRole, pick}
+use Rattle.records.specs.View.{viewId, keyAt, viewKey, viewTable, viewRole, viewRoot, viewEntries, pick}
+use Rattle.envelope.specs.Open.{viewRead}
 use Rattle.root_file.specs.Body.{Naming, Roles, Body}
 use Rattle.root_file.specs.declared.KeyAt.{KeyAt}
 use Rattle.root_file.specs.declared.KeysAt.{KeysAt}
@@ -16,6 +18,7 @@ use Rattle.root_file.specs.declared.NamingAt.{NamingAt}
 use Rattle.root_file.specs.declared.RoleAt.{RoleAt}
 use Rattle.root_file.specs.declared.RolesAt.{RolesAt}
 use Rattle.root_file.specs.declared.RootAt.{RootAt}
+use Rattle.root_file.specs.declared.RootRead.{RootRead}
 
 -- the public values in a key table, from place i on
 unfoldable pub publicsFrom : KeyTable → ℕ → List Bytes
@@ -55,3 +58,6 @@ viewRootAt r =
         targetsRole = viewRole (r .table) (r .targets);
       };
     })
+
+unfoldable pub viewRootRead : RootRead → rules.Read state.Root
+viewRootRead r = viewRead (r .answer) (viewRoot (r .root)) (viewEntries (r .entries))

@@ -1,4 +1,4 @@
-// The body of a root (01, "Forms"), read at a place of a canonical text: the key table and the four roles.
+// A root file, read (01, "Forms" and refusals 1 to 4): the key table and the four roles at a place of a canonical text, and the whole file.
 ghost use mathlib.Core.Path.{_≡_};
 ghost use mathlib.Core.Bool.{false};
 ghost use lib.ListN.{drop};
@@ -9,21 +9,25 @@ ghost use Rattle.lookup.specs.Place.{Takes};
 ghost use Rattle.rules.specs.Limits.{maxKeys, keySize};
 ghost use Rattle.rules.specs.Take.{must, hex};
 ghost use Rattle.rules.specs.Forms.{isIn, different, key as keyForm, keys as keysForm};
+ghost use Rattle.rules.specs.State.{rootIn};
 ghost use Rattle.records.specs.View.{viewId, viewTable};
 ghost use Rattle.forms.specs.Each.{eachMember};
 ghost use Rattle.forms.specs.View.{viewIdAt};
 ghost use Rattle.root_file.specs.Body.{naming, roleKept, rolesKept, rootKept, isTruth};
-ghost use Rattle.root_file.specs.View.{publicsFrom, viewKeyAt, viewKeysAt, viewNamingAt, viewRoleAt, viewRolesAt, viewRootAt};
+ghost use Rattle.root_file.specs.View.{publicsFrom, viewKeyAt, viewKeysAt, viewNamingAt, viewRoleAt, viewRolesAt, viewRootAt, viewRootRead};
+use date::Time;
 use forms::IdAt;
 use lookup::Element;
 use lookup::Found;
 use lookup::Member;
 use lookup::Number;
 use lookup::Truth;
+use records::Entries;
 use records::Id;
 use records::Key;
 use records::KeyTable;
 use records::Role;
+use records::Root;
 
 // ---- Keys
 
@@ -475,5 +479,70 @@ pub fn root_at(s: &[u8], at: usize) -> RootAt
         timestamp,
         snapshot,
         targets,
+    }
+}
+
+// What is kept of a root file, with the keyids of its entries; or the refusal.
+pub struct RootRead {
+    pub answer: u8,
+    pub root: Root,
+    pub entries: Entries,
+}
+
+fn refused(answer: u8) -> RootRead
+    ensures { λ r. ⌜ r .answer ≡ answer ⌝ }
+{
+    let blank = no_root();
+    let table = blank.table;
+    let role = blank.root;
+    let entries = envelope::no_ids();
+    RootRead {
+        answer,
+        root: Root {
+            version: 0,
+            expires: Time { seconds: 0 },
+            table,
+            root: role,
+            timestamp: role,
+            snapshot: role,
+            targets: role,
+        },
+        entries,
+    }
+}
+
+pub fn read_root(file: &[u8]) -> RootRead
+    ensures { λ r. ⌜ viewRootRead r ≡ rootIn (now (file .entry)) ⌝ }
+{
+    let role = envelope::role_in(file, b"root");
+    if role.answer != 0 {
+        return refused(role.answer);
+    }
+    let body = root_at(file, role.start);
+    if !body.ok {
+        return refused(envelope::BAD_FORM);
+    }
+    if !role.known {
+        return refused(envelope::OTHER_SPEC);
+    }
+    let expires = role.expires;
+    let table = body.table;
+    let root = body.root;
+    let timestamp = body.timestamp;
+    let snapshot = body.snapshot;
+    let targets = body.targets;
+    let entries = role.entries;
+    RootRead {
+        answer: 0,
+        root: Root {
+            version: role.version,
+            expires,
+            table,
+            root,
+            timestamp,
+            snapshot,
+            targets,
+        },
+        entries,
     }
 }
