@@ -49,7 +49,7 @@ fn no_key() -> KeyAt
     }
 }
 
-// "a keyval whose public is 64 lower-case hex"
+// "a keyval whose public is 64 lower-case hex".
 fn public_at(s: &[u8], at: usize) -> IdAt
     ensures { λ r. ⌜ Takes (now (s .entry)) at (must (bytes "keyval") (must (bytes "public") (hex keySize))) (viewIdAt r) ⌝ }
 {
@@ -105,7 +105,7 @@ fn no_keys() -> KeysAt
         ok: false,
         table: KeyTable {
             count: 0,
-            keys: [key; 16],
+            keys: [key; records::MAX_KEYS],
         },
     }
 }
@@ -116,7 +116,7 @@ fn table_at(s: &[u8], at: usize) -> KeysAt
 {
     let blank = no_key();
     let zeros = blank.key;
-    let mut keys = [zeros; 16];
+    let mut keys = [zeros; records::MAX_KEYS];
     let mut n: usize = 0;
     let mut m = lookup::first_member(s, at);
     loop {
@@ -166,7 +166,7 @@ fn has_public(table: KeyTable, public: Id, i: usize) -> bool
     false
 }
 
-// "no two keyids of one file may have the same public value"
+// "no two keyids of one file may have the same public value".
 fn publics_differ(table: KeyTable) -> bool
     ensures { λ r. ⌜ r ≡ different (publicsFrom table 0) ⌝ }
 {
@@ -182,6 +182,7 @@ fn publics_differ(table: KeyTable) -> bool
     true
 }
 
+// "keys, 1 to 16".
 pub fn keys_at(s: &[u8], at: usize) -> KeysAt
     ensures { λ r. ⌜ Takes (now (s .entry)) at keysForm (viewKeysAt r) ⌝ }
 {
@@ -271,7 +272,7 @@ fn naming_at(s: &[u8], at: usize, table: KeyTable) -> NamingAt
     }
 }
 
-// "keyids"
+// "keyids".
 fn naming_field(s: &[u8], at: usize, table: KeyTable) -> NamingAt
     ensures { λ r. ⌜ Takes (now (s .entry)) at (must (bytes "keyids") (naming (viewTable table))) (viewNamingAt table r) ⌝ }
 {
@@ -302,7 +303,7 @@ fn no_role() -> RoleAt
     }
 }
 
-// "1 to 16 different keyids from the key table and a threshold from 1 to the number of those keyids"
+// "1 to 16 different keyids from the key table and a threshold from 1 to the number of those keyids".
 pub fn role_at(s: &[u8], at: usize, table: KeyTable) -> RoleAt
     ensures { λ r. ⌜ Takes (now (s .entry)) at (roleKept (viewTable table)) (viewRoleAt table r) ⌝ }
 {
@@ -363,33 +364,33 @@ fn no_roles() -> RolesAt
     }
 }
 
-// "Other role names are passed over"
+// "roles with root, timestamp, snapshot and targets"; "Other role names are passed over".
 fn roles_at(s: &[u8], at: usize, table: KeyTable) -> RolesAt
     ensures { λ r. ⌜ Takes (now (s .entry)) at (rolesKept (viewTable table)) (viewRolesAt table r) ⌝ }
 {
-    let root = role_field(s, at, b"root", table);
-    if !root.ok {
+    let first = role_field(s, at, b"root", table);
+    if !first.ok {
         return no_roles();
     }
-    let timestamp = role_field(s, at, b"timestamp", table);
-    if !timestamp.ok {
+    let second = role_field(s, at, b"timestamp", table);
+    if !second.ok {
         return no_roles();
     }
-    let snapshot = role_field(s, at, b"snapshot", table);
-    if !snapshot.ok {
+    let third = role_field(s, at, b"snapshot", table);
+    if !third.ok {
         return no_roles();
     }
-    let targets = role_field(s, at, b"targets", table);
-    let a = root.role;
-    let b = timestamp.role;
-    let c = snapshot.role;
-    let d = targets.role;
+    let fourth = role_field(s, at, b"targets", table);
+    let root = first.role;
+    let timestamp = second.role;
+    let snapshot = third.role;
+    let targets = fourth.role;
     RolesAt {
-        ok: targets.ok,
-        root: a,
-        timestamp: b,
-        snapshot: c,
-        targets: d,
+        ok: fourth.ok,
+        root,
+        timestamp,
+        snapshot,
+        targets,
     }
 }
 
@@ -511,6 +512,7 @@ fn refused(answer: u8) -> RootRead
     }
 }
 
+// 3 before 4: the spec_version is asked for when the body was read.
 pub fn read_root(file: &[u8]) -> RootRead
     ensures { λ r. ⌜ viewRootRead r ≡ rootIn (now (file .entry)) ⌝ }
 {
