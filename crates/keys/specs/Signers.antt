@@ -5,7 +5,7 @@ use mathlib.Core.List.{List}
 use mathlib.Core.Option.{Option}
 use Prim.Native.Nat.{ℕ, _<_}
 use lib.Dec.{ltb}
-use Rattle.base.specs.Bytes.{Bytes}
+use Rattle.base.specs.Bytes.{Bytes, same}
 use Rattle.rules.specs.Limits.{maxKeys}
 use Rattle.rules.specs.Records as rules
 use Rattle.rules.specs.State.{Row}
@@ -19,6 +19,10 @@ use Rattle.records.specs.View.{viewId, keyAt, has}
 -- some entry with the keyid of the key in place k has verdict 1
 unfoldable pub signsAt : KeyTable → List Bytes → Row → ℕ → Bool
 signsAt t entries row k = signed (viewId (keyAt t k .keyid)) entries row
+
+-- the key in place k has that keyid
+unfoldable pub hasId : KeyTable → Bytes → ℕ → Bool
+hasId t keyid k = same keyid (viewId (keyAt t k .keyid))
 
 -- of 16 bits, those are set of the places below n that pass the test
 abbrev pub Marks : ℕ → (ℕ → Bool) → ℕ → Type 0

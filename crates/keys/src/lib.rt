@@ -12,7 +12,7 @@ ghost use Rattle.rules.specs.Forms.{isIn};
 ghost use Rattle.rules.specs.Conditions.{any, badRow, signed, tooFew, keyOf};
 ghost use Rattle.rules.specs.Conditions.{within as withinOf, rotated as rotatedOf};
 ghost use Rattle.records.specs.View.{viewId, viewEntries, viewTable, viewRole, has};
-ghost use Rattle.keys.specs.Signers.{Marks, signsAt, Asked};
+ghost use Rattle.keys.specs.Signers.{Marks, signsAt, hasId, Asked};
 
 // A key's public value; zeros where there is no such key.
 pub struct Public {
@@ -102,6 +102,22 @@ fn signers(table: KeyTable, entries: Entries, row: &[u8]) -> u16
     while j < n {
         let key = table.keys[j];
         let set = is_signed(key.keyid, entries, row);
+        bits = with_bit(bits, j, set);
+        j += 1;
+    }
+    bits
+}
+
+// The places of the key table that have that keyid, as bits.
+pub fn places_of(table: KeyTable, keyid: Id) -> u16
+    ensures { λ r. ⌜ Marks (min (table .count) 16) (hasId table (viewId keyid)) r ⌝ }
+{
+    let n = records::at_most(table.count, records::MAX_KEYS);
+    let mut bits: u16 = 0;
+    let mut j = 0;
+    while j < n {
+        let key = table.keys[j];
+        let set = same_id(keyid, key.keyid);
         bits = with_bit(bits, j, set);
         j += 1;
     }

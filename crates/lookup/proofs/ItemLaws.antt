@@ -1,7 +1,7 @@
 -- Brackets at a place of the text, and the elements of an array one after the other.
-use mathlib.Core.Path.{_≡_, refl, ap, _∙_}
-use mathlib.Core.List.{_∷_}
-use mathlib.Core.Bool.{true, false}
+use mathlib.Core.Path.{_≡_, refl, sym, ap, _∙_}
+use mathlib.Core.List.{[], _∷_}
+use mathlib.Core.Bool.{Bool, true, false, cond}
 use Prim.Native.Nat.{ℕ, suc, _≤_, _<_, _+_, _-_}
 use native.Mathlib.Omega.{arith}
 use lib.Dec.{eqb}
@@ -77,6 +77,31 @@ pub follows-by : (s : Bytes) (p close : ℕ) {f : Found} → EndsAt s p f → (e
 follows-by s p close w e q r k v h =
     k ∙ ap (λ (n : ℕ). closes close (n + 1) (drop n s)) (end-is s p v h w e q)
     ∙ ap (λ (t : Bytes). closes close (length s - length (h .rest) + 1) t) (rest-at s p v h)
+
+-- where the next element begins
+closes-place : (close j : ℕ) (t : Bytes) (i : ℕ) → closes close j t ≡ At i → i ≡ j
+unfolding closes
+closes-place close j [] i e = let z : _≡_ {A = ℕ} 0 1 = cc in absurd (omega arith)
+closes-place close j (b ∷ t) i e = go (eqb b close) e
+  where
+    go : (x : Bool) → cond x End (At j) ≡ At i → i ≡ j
+    go true e = let z : _≡_ {A = ℕ} 0 1 = cc in absurd (omega arith)
+    go false e = cc
+
+pub opens-place : (s : Bytes) (p start close : ℕ) {r : Element} → Opens s p start close r → (i : ℕ) → r ≡ At i → i ≡ p + 1
+unfolding opens
+opens-place s p start close o i q = go (drop p s) (sym (o .is) ∙ q)
+  where
+    at : (b : ℕ) (t : Bytes) (x : Bool) → cond x (closes close (p + 1) t) NoArray ≡ At i → i ≡ p + 1
+    at b t true e = closes-place close (p + 1) t i e
+    at b t false e = let z : _≡_ {A = ℕ} 0 1 = cc in absurd (omega arith)
+
+    go : (t : Bytes) → opens start close p t ≡ At i → i ≡ p + 1
+    go [] e = let z : _≡_ {A = ℕ} 0 1 = cc in absurd (omega arith)
+    go (b ∷ t) e = at b t (eqb b start) e
+
+pub follows-place : (s : Bytes) (j close : ℕ) (r : Element) → Follows s j close r → (i : ℕ) → r ≡ At i → (v : Json) (h : Stands s j v) → i ≡ length s - length (h .rest) + 1
+follows-place s j close r w i q v h = closes-place close (length s - length (h .rest) + 1) (h .rest) i (sym (w .means v h) ∙ q)
 
 -- ## Elements
 

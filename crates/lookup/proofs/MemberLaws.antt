@@ -15,7 +15,7 @@ use Rattle.json.proofs.Puts.{put-str, put-obj, members-nil, members-cons, more-
 use Rattle.json.proofs.Complete.{complete}
 use Rattle.json.proofs.Rest.{located, chars-fits, refused}
 use Rattle.lookup.specs.Place.{Stands}
-use Rattle.lookup.specs.Walk.{closes, opens, Opens, Follows, MemberAt, MemberAfter, MembersLeft, members-end, members-at, MembersOf}
+use Rattle.lookup.specs.Walk.{closes, opens, Opens, Follows, MemberAt, MemberAfter, NameAt, MembersLeft, members-end, members-at, MembersOf}
 use Rattle.lookup.specs.declared.Element.{Element}
 use Rattle.lookup.specs.declared.Element.the-variants as element
 use Rattle.lookup.specs.declared.Member.{Member}
@@ -74,6 +74,10 @@ name-after s i e q h = let k = located s (i + 1) e (chars-fits (drop (i + 1) s) 
 -- a member that was found
 pub member-after : (s : Bytes) (p : ℕ) (r : Member) → MemberAfter s p r → (i j : ℕ) → r ≡ member.At i j → (p < i) × (i < j) × (j ≤ length s)
 member-after s p r a i j q = rw q at a
+
+-- a name just past i
+pub name-later : (r : Member) {i p : ℕ} → NameAt r (i + 1) → i ≡ p → NameAt r (p + 1)
+name-later r n e = rw e at n
 
 -- what is left of the text, for a loop's measure
 abbrev pub ahead : Bytes → Member → ℕ

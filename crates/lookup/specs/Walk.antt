@@ -86,17 +86,27 @@ MemberAfter s p member.NoObject = Unit {0}
 MemberAfter s p member.End = Unit {0}
 MemberAfter s p (member.At i j) = (p < i) × (i < j) × (j ≤ length s)
 
+-- the name of a member that is handed back begins at place i
+abbrev pub NameAt : Member → ℕ → Type 0
+NameAt member.NoObject i = Unit {0}
+NameAt member.End i = Unit {0}
+NameAt (member.At n j) i = n ≡ i
+
 -- the member whose name's opening quote stands at i
 pub record MemberAt (s : Bytes) (i : ℕ) (r : Member) : Type 0 where
   pub means : (n : Bytes) (v : Json) (ms : Members) (rest : Bytes) → drop i s ≡ putStr n (code ":" ∷ put v (putMoreMembers ms (code "}" ∷ rest)))
       → ValidMembers (mcons n v ms) maxDepth → MembersLeft s r (mcons n v ms)
   pub onward : MemberAfter s i r
+  pub place : NameAt r (i + 1)
 
+-- `place`: the first name begins past the opening brace and a quote, a later one past the value before it, a comma and a quote
 pub record FirstMember (s : Bytes) (p : ℕ) (r : Member) : Type 0 where
   pub means : (v : Json) → Stands s p v → MembersOf s r (members v)
   pub onward : MemberAfter s p r
+  pub place : NameAt r (p + 1 + 1)
 
 -- the member after the one whose value stands at j
 pub record NextMember (s : Bytes) (j : ℕ) (r : Member) : Type 0 where
   pub means : (i : ℕ) (n : Bytes) (v : Json) (ms : Members) → MembersLeft s (member.At i j) (mcons n v ms) → MembersLeft s r ms
   pub onward : MemberAfter s j r
+  pub place : (v : Json) (here : Stands s j v) → NameAt r (length s - length (here .rest) + 1 + 1)

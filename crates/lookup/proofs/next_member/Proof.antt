@@ -12,13 +12,13 @@ enum-told : tie.Need-enum-told
 enum-told c = search needs
 
 returns : tie.Need-returns
-returns c = record { means = members.next-by _ _ (c .before .before .following .ensures) (rw (c .enum-told .given .1) members.by-none); onward = tt }
+returns c = record { means = members.next-by _ _ (c .before .before .following .ensures) (rw (c .enum-told .given .1) members.by-none); onward = tt; place = λ v h. tt }
 
 enum-told-2 : tie.Need-enum-told-2
 enum-told-2 c = search needs
 
 returns-2 : tie.Need-returns-2
-returns-2 c = record { means = members.next-by _ _ (c .before .before .following .ensures) (rw (c .enum-told2 .given .1) members.by-end); onward = tt }
+returns-2 c = record { means = members.next-by _ _ (c .before .before .following .ensures) (rw (c .enum-told2 .given .1) members.by-end); onward = tt; place = λ v h. tt }
 
 enum-known-i : tie.Need-enum-known-i
 enum-known-i c = search needs
@@ -31,7 +31,7 @@ returns-3 c =
     let m = c .member-at .ensures in
     let q = c .before .before .i .given .1 in
     let a = items.element-after _ _ _ (c .before .before .before .before .following .ensures .onward) _ q .0 in
-    record { means = members.next-by _ _ (c .before .before .before .before .following .ensures) (rw q (members.by-at m)); onward = members.after-later _ _ _ a (c .member-at .result) (m .onward) }
+    record { means = members.next-by _ _ (c .before .before .before .before .following .ensures) (rw q (members.by-at m)); onward = members.after-later _ _ _ a (c .member-at .result) (m .onward); place = λ v h. members.name-later (c .member-at .result) (m .place) (items.follows-place _ _ _ _ (c .before .before .before .before .following .ensures) _ q v h) }
 
 pub next-member-spec : {M : Type 1} → statement M
 next-member-spec =

@@ -1,0 +1,113 @@
+-- `entries_at` meets its contract. The invariant: n entries gave the keyids in front, and the elements left decide the whole.
+use mathlib.Core.Path.{_≡_, refl, sym, ap, _∙_}
+use mathlib.Core.Option.{some}
+use Prim.Native.Nat.{_≤_}
+use native.Mathlib.Omega.{arith}
+use borrow.Author.Needs.{needs}
+use borrow.Author.Tests.{not-true, not-false}
+use lib.ListN.{length, length-set}
+use Rattle.json.specs.Json.{Json}
+use Rattle.json.specs.Fields.{keep}
+use Rattle.lookup.specs.Place.{Stands}
+use Rattle.lookup.proofs.ItemLaws.{ahead, ahead-less}
+use Rattle.rules.specs.Limits.{maxEntries}
+use Rattle.records.specs.View.{viewId, noId, viewEntries}
+use Rattle.forms.specs.Each.{eachItem}
+use Rattle.forms.proofs.EachLaws.{ItemsWalk, items-first, items-none, items-over, items-full, items-broken, items-next}
+use Rattle.forms.proofs.ArrayLaws.{front, front-none, front-more, front-firsts}
+use Rattle.envelope.specs.Header.{viewEntry, viewEntriesAt}
+use Rattle.envelope.proofs.EntryLaws.{keyidOf, keyid-none, keyid-some, keyids-each}
+use Rattle.envelope.proofs.entries_at.Statement.{statement}
+use Rattle.envelope.proofs.entries_at.Tie as tie
+
+abbrev Inv-loop : tie.InvT-loop
+Inv-loop s at ids₀ n₀ e₀ ids n e = (n ≤ maxEntries) × (length ids ≡ maxEntries) × ((v : Json) → Stands s at v → ItemsWalk keyidOf 0 maxEntries s e n (front viewId noId ids n) (eachItem 0 maxEntries keyidOf v))
+
+abbrev μ-loop : tie.MeasureT-loop
+μ-loop s at ids₀ n₀ e₀ ids n e = ahead s e
+
+first-element-requires : tie.Need-first-element-requires Inv-loop μ-loop
+first-element-requires c κs = search needs
+
+loop-holds : tie.Need-loop-holds Inv-loop μ-loop
+loop-holds c = (omega arith, refl, λ v h. rw (front-none viewId noId _) (items-first keyidOf 0 maxEntries _ _ (c .first-element .ensures) v h))
+
+enum-known-e : tie.Need-enum-known-e Inv-loop μ-loop
+enum-known-e c = search needs
+
+no-entries-requires : tie.Need-no-entries-requires Inv-loop μ-loop
+no-entries-requires c κs = search needs
+
+returns : tie.Need-returns Inv-loop μ-loop
+returns c = let s = c .before .before .before .before .before .before .before .before .args .s .now in let l = c .before .before .before .before .before .loop in λ v h. c .no-entries .ensures ∙ items-full keyidOf 0 maxEntries s (l .e) (l .n) (front viewId noId (l .ids) (l .n)) _ (l .inv .2 v h) _ (c .before .before .before .e .given .1) (c .before .if1 .taken) ∙ sym (keyids-each v)
+
+entry-at-requires : tie.Need-entry-at-requires Inv-loop μ-loop
+entry-at-requires c κs = search needs
+
+no-entries-requires-2 : tie.Need-no-entries-requires-2 Inv-loop μ-loop
+no-entries-requires-2 c κs = search needs
+
+returns-2 : tie.Need-returns-2 Inv-loop μ-loop
+unfolding viewEntry
+returns-2 c = let s = c .before .before .before .before .before .before .before .before .before .before .before .args .s .now in let l = c .before .before .before .before .before .before .before .before .loop in λ v h. c .no-entries2 .ensures ∙ items-broken keyidOf 0 maxEntries s (l .e) (l .n) (front viewId noId (l .ids) (l .n)) _ (l .inv .2 v h) _ (c .before .before .before .before .before .before .e .given .1) (keyid-none s _ _ _ (c .before .before .before .entry-at .ensures) (not-true _ (c .before .if2 .taken))) ∙ sym (keyids-each v)
+
+mul-ids : tie.Need-mul-ids Inv-loop μ-loop
+mul-ids c = search needs
+
+array-set-from-ids : tie.Need-array-set-from-ids Inv-loop μ-loop
+array-set-from-ids c = search needs
+
+add-n : tie.Need-add-n Inv-loop μ-loop
+add-n c = search needs
+
+next-element-requires : tie.Need-next-element-requires Inv-loop μ-loop
+next-element-requires c κs = search needs
+
+loop-less : tie.Need-loop-less Inv-loop μ-loop
+loop-less c = let s = c .before .before .before .before .before .before .before .before .before .before .before .before .args .s .now in let l = c .before .before .before .before .before .before .before .before .before .loop in ahead-less s (l .e) _ (c .before .before .before .before .before .before .before .e .given .1) (c .next-element .result) (c .next-element .ensures .onward)
+
+loop-again : tie.Need-loop-again Inv-loop μ-loop
+unfolding viewEntry
+loop-again c = let s = c .before .before .before .before .before .before .before .before .before .before .before .before .args .s .now in let l = c .before .before .before .before .before .before .before .before .before .loop in (omega (arith, c .before .before .before .before .before .if1 .left), simp length-set (omega arith), λ v h. rw (front-more viewId noId (l .ids) (l .n) _ (omega (arith, c .before .before .before .before .before .if1 .left))) (items-next keyidOf 0 maxEntries s (l .e) (l .n) (front viewId noId (l .ids) (l .n)) _ (l .inv .2 v h) _ (c .before .before .before .before .before .before .before .e .given .1) _ (keyid-some s _ _ _ (c .before .before .before .before .entry-at .ensures) (not-false _ (c .before .before .if2 .left))) _ (c .next-element .ensures)))
+
+enum-told : tie.Need-enum-told Inv-loop μ-loop
+enum-told c = search needs
+
+no-entries-requires-3 : tie.Need-no-entries-requires-3 Inv-loop μ-loop
+no-entries-requires-3 c κs = search needs
+
+returns-3 : tie.Need-returns-3 Inv-loop μ-loop
+returns-3 c = let s = c .before .before .before .before .before .before .args .s .now in let l = c .before .before .before .loop in λ v h. c .no-entries3 .ensures ∙ items-none keyidOf 0 maxEntries s (l .e) (l .n) (front viewId noId (l .ids) (l .n)) _ (l .inv .2 v h) (c .before .enum-told .given .1) ∙ sym (keyids-each v)
+
+enum-told-2 : tie.Need-enum-told-2 Inv-loop μ-loop
+enum-told-2 c = search needs
+
+returns-4 : tie.Need-returns-4 Inv-loop μ-loop
+unfolding viewEntriesAt viewEntries keep
+returns-4 c = let s = c .before .before .before .before .before .args .s .now in let l = c .before .before .loop in λ v h. ap some (front-firsts viewId noId (l .ids) (l .n) maxEntries (l .inv .0)) ∙ items-over keyidOf 0 maxEntries s (l .e) (l .n) (front viewId noId (l .ids) (l .n)) _ (l .inv .2 v h) (c .enum-told2 .given .1) (omega arith) (l .inv .0) ∙ sym (keyids-each v)
+
+pub entries-at-spec : {M : Type 1} → statement M
+entries-at-spec =
+    tie.close
+    (tie.spec
+    Inv-loop
+    μ-loop
+    first-element-requires
+    loop-holds
+    enum-known-e
+    no-entries-requires
+    returns
+    entry-at-requires
+    no-entries-requires-2
+    returns-2
+    mul-ids
+    array-set-from-ids
+    add-n
+    next-element-requires
+    loop-less
+    loop-again
+    enum-told
+    no-entries-requires-3
+    returns-3
+    enum-told-2
+    returns-4)

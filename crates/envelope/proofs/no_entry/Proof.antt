@@ -1,0 +1,13 @@
+-- `no_entry` gives nothing.
+use mathlib.Core.Path.{refl}
+use Rattle.json.specs.Fields.{keep}
+use Rattle.envelope.specs.Header.{viewEntry}
+use Rattle.envelope.proofs.no_entry.Statement.{statement}
+use Rattle.envelope.proofs.no_entry.Tie as tie
+
+returns : tie.Need-returns
+unfolding viewEntry keep
+returns c = refl
+
+pub no-entry-spec : {M : Type 1} → statement M
+no-entry-spec = tie.close (tie.spec returns)

@@ -1,0 +1,91 @@
+-- What an opened file says: its envelope, and then its header.
+use mathlib.Core.Path.{_≡_}
+use mathlib.Core.Option.{Option, none, some}
+use mathlib.Core.List.{List}
+use mathlib.Core.Bool.{Bool, cond}
+use Prim.Native.Nat.{ℕ}
+use lib.Dec.{eqb}
+use Rattle.base.specs.Bytes.{Bytes}
+use Rattle.json.specs.Json.{Json}
+use Rattle.json.specs.Fields.{members, field}
+use Rattle.lookup.specs.Place.{Stands, PlaceOf}
+use Rattle.lookup.specs.declared.Found.{Found}
+use Rattle.lookup.specs.declared.Found.the-variants.{Nothing, At}
+use Rattle.rules.specs.Take.{_>>=_}
+use Rattle.rules.specs.Records.{Fault, tooLong, notText, badForm, otherSpec, Read, refused, says}
+use Rattle.rules.specs.Forms.{Envelope, placeOf}
+use Rattle.rules.specs.Reading.{keyidsOf}
+use Rattle.rules.specs.Steps.{faultNumber}
+use Rattle.records.specs.View.{viewEntries}
+use Rattle.envelope.specs.Header.{Header, header}
+use Rattle.envelope.specs.declared.Opened.{Opened}
+use Rattle.envelope.specs.declared.RoleFile.{RoleFile}
+
+-- ## A member of the file's object, by its exact place
+
+unfoldable pub viewFound : Found → Option ℕ
+viewFound Nothing = none
+viewFound (At x) = some x
+
+pub record Locates (s k : Bytes) (v : Json) (r : Found) : Type 0 where
+  pub value : PlaceOf s r (field k v)
+  pub place : viewFound r ≡ (members v >>= placeOf k)
+
+-- ## The envelope
+
+-- an object
+unfoldable pub object : Json → Option (Unit {0})
+object v = members v >>= λ _. some tt
+
+-- r is the opened envelope e, whose signed value stands in the file at its place
+pub record IsOpen (file : Bytes) (r : Opened) (e : Envelope) : Type 0 where
+  pub answer : r .answer ≡ 0
+  pub start : r .start ≡ e .start
+  pub length : r .length ≡ e .length
+  pub keyids : viewEntries (r .entries) ≡ keyidsOf (e .entries)
+  pub stands : Stands file (r .start) (e .signed)
+
+-- a refusal gives an empty part and no entries
+pub record IsShut (r : Opened) (number : ℕ) : Type 0 where
+  pub answer : r .answer ≡ number
+  pub start : r .start ≡ 0
+  pub length : r .length ≡ 0
+  pub count : r .entries .count ≡ 0
+
+abbrev pub Opens : Bytes → Opened → Read Envelope → Type 0
+Opens file r (refused f) = IsShut r (faultNumber f)
+Opens file r (says e ks) = IsOpen file r e
+
+-- ## A role's file, up to its body
+
+pub record Headed : Type 0 where
+  pub header : Header
+  pub signed : Json
+
+unfoldable pub headed : Envelope → Option Header → Read Headed
+headed e none = refused badForm
+headed e (some h) = says (record { header = h; signed = e .signed }) (keyidsOf (e .entries))
+
+unfoldable pub headedBy : Bytes → Read Envelope → Read Headed
+headedBy type (refused f) = refused f
+headedBy type (says e ks) = headed e (header type (e .signed))
+
+pub record IsHeaded (file : Bytes) (r : RoleFile) (h : Headed) (ks : List Bytes) : Type 0 where
+  pub answer : r .answer ≡ 0
+  pub known : r .known ≡ h .header .known
+  pub version : r .version ≡ h .header .version
+  pub expires : r .expires .seconds ≡ h .header .expires
+  pub keyids : viewEntries (r .entries) ≡ ks
+  pub stands : Stands file (r .start) (h .signed)
+
+abbrev pub Heads : Bytes → RoleFile → Read Headed → Type 0
+Heads file r (refused f) = r .answer ≡ faultNumber f
+Heads file r (says h ks) = IsHeaded file r h ks
+
+-- ## A role's file, read: the refusal of that number, or what it says
+
+unfoldable pub fault : ℕ → Fault
+fault n = cond (eqb n 1) tooLong (cond (eqb n 2) notText (cond (eqb n 3) badForm otherSpec))
+
+unfoldable pub viewRead : {A : Type 0} → ℕ → A → List Bytes → Read A
+viewRead n a es = cond (eqb n 0) (says a es) (refused (fault n))

@@ -1,0 +1,31 @@
+-- `word_field` meets its contract.
+use borrow.Author.Needs.{needs}
+use Rattle.forms.proofs.StepLaws.{must-none, must-at}
+use Rattle.json.specs.Fields.{keep}
+use mathlib.Core.Path.{refl}
+use Rattle.forms.proofs.word_field.Statement.{statement}
+use Rattle.forms.proofs.word_field.Tie as tie
+
+find-member-requires : tie.Need-find-member-requires
+find-member-requires c κs = search needs
+
+enum-told : tie.Need-enum-told
+enum-told c = search needs
+
+returns : tie.Need-returns
+unfolding keep
+returns c = must-none _ _ _ (c .before .before .find-member .ensures) _ _ (c .enum-told .given .1) refl
+
+enum-known-x : tie.Need-enum-known-x
+enum-known-x c = search needs
+
+word-at-requires : tie.Need-word-at-requires
+word-at-requires c κs = search needs
+
+returns-2 : tie.Need-returns-2
+returns-2 c = must-at _ _ _ (c .before .before .before .before .find-member .ensures) _ _ _ (c .before .before .x .given .1) (c .word-at .ensures)
+
+pub word-field-spec : {M : Type 1} → statement M
+word-field-spec =
+    tie.close
+    (tie.spec find-member-requires enum-told returns enum-known-x word-at-requires returns-2)

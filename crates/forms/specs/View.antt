@@ -1,0 +1,39 @@
+-- What the answers of the leaves stand for: nothing where they are not `ok`.
+use mathlib.Core.Path.{_≡_}
+use mathlib.Core.Option.{Option}
+use mathlib.Core.Bool.{Bool, cond}
+use Prim.Native.Nat.{ℕ}
+use lib.Dec.{eqb}
+use lib.ListN.{length}
+use Rattle.base.specs.Bytes.{Bytes}
+use Rattle.base.specs.Window.{window}
+use Rattle.base.specs.declared.Bytes64.{Bytes64}
+use Rattle.json.specs.Fields.{keep}
+use Rattle.rules.specs.Limits.{signatureSize}
+use Rattle.rules.specs.Records as rules
+use Rattle.records.specs.View.{viewId, viewListed}
+use Rattle.forms.specs.declared.IdAt.{IdAt}
+use Rattle.forms.specs.declared.MayId.{MayId}
+use Rattle.forms.specs.declared.MayNumber.{MayNumber}
+use Rattle.forms.specs.declared.ListedAt.{ListedAt}
+
+-- t fills a buffer that was `before`, or has another number of bytes
+pub record Fills (t before : Bytes) (done : Bool) (after : Bytes) : Type 0 where
+  pub fits : done ≡ eqb (length t) (length before)
+  pub is : after ≡ cond done t before
+
+unfoldable pub viewIdAt : IdAt → Option Bytes
+viewIdAt r = keep (r .ok) (viewId (r .id))
+
+unfoldable pub viewSig : Bytes64 → Option Bytes
+viewSig r = keep (r .ok) (window (r .bytes) 0 signatureSize)
+
+-- a member that may be missing
+unfoldable pub viewMayId : MayId → Option (Option Bytes)
+viewMayId r = keep (r .ok) (keep (r .given) (viewId (r .id)))
+
+unfoldable pub viewMayNumber : MayNumber → Option (Option ℕ)
+viewMayNumber r = keep (r .ok) (keep (r .given) (r .value))
+
+unfoldable pub viewListedAt : ListedAt → Option rules.Listed
+viewListedAt r = keep (r .ok) (viewListed (r .listed))

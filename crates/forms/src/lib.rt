@@ -1,0 +1,346 @@
+// Leaves and small forms (01, "Forms"), read at a place of a canonical text: hex, numbers, words, dates, what is said of a listed file.
+// A contract `Takes s at F o` says: where a value stands at the place, o is what the form F says of it.
+ghost use mathlib.Core.Path.{_≡_};
+ghost use mathlib.Core.Option.{none};
+ghost use lib.ListN.{drop};
+ghost use Rattle.base.specs.Bytes.{bytes};
+ghost use Rattle.json.specs.Read.{raw};
+ghost use Rattle.json.specs.Fields.{keep, number};
+ghost use Rattle.lookup.specs.Place.{Takes};
+ghost use Rattle.lookup.specs.Leaves.{viewNumber};
+ghost use Rattle.date.specs.Calendar.{dateOf};
+ghost use Rattle.date.specs.View.{viewDate};
+ghost use Rattle.rules.specs.Limits.{keySize, signatureSize};
+ghost use Rattle.rules.specs.Take.{must, may, word, unhex, hex, date as dateForm};
+ghost use Rattle.rules.specs.Forms.{version, sha256, listed as listedForm};
+ghost use Rattle.forms.specs.View.{Fills, viewIdAt, viewSig, viewMayId, viewMayNumber, viewListedAt};
+use base::Bytes64;
+use date::Date;
+use lookup::Found;
+use lookup::Number;
+use records::Id;
+use records::Listed;
+
+// ---- Strings of a known length: `i` stands just past the opening quote
+
+// Copies the string's bytes into the whole of `out`. Where it has another number of bytes, `out` stays as it is.
+fn fill_text(s: &[u8], i: usize, out: &mut [u8]) -> bool
+    ensures { λ r. ⌜ Fills (raw (drop i (now (s .entry)))) (now (out .entry)) r (now (out .exit)) ⌝ }
+{
+    if lookup::text_len(s, i) != out.len() {
+        return false;
+    }
+    lookup::copy_text(s, i, out)
+}
+
+// ---- Hex
+
+// A keyid, a public key or a digest.
+pub struct IdAt {
+    pub ok: bool,
+    pub id: Id,
+}
+
+fn no_id() -> IdAt
+    ensures { λ r. ⌜ viewIdAt r ≡ none ⌝ }
+{
+    IdAt {
+        ok: false,
+        id: Id { bytes: [0u8; 32] },
+    }
+}
+
+fn no_sig() -> Bytes64
+    ensures { λ r. ⌜ viewSig r ≡ none ⌝ }
+{
+    Bytes64 {
+        ok: false,
+        bytes: [0u8; 64],
+    }
+}
+
+// 64 lower-case hex digits, the string just past its opening quote at `i`.
+pub fn id_in(s: &[u8], i: usize) -> IdAt
+    ensures { λ r. ⌜ viewIdAt r ≡ unhex keySize (raw (drop i (now (s .entry)))) ⌝ }
+{
+    let mut digits = [0u8; 64];
+    if !fill_text(s, i, &mut digits) {
+        return no_id();
+    }
+    let undone = base::hex32(&digits);
+    let bytes = undone.bytes;
+    IdAt {
+        ok: undone.ok,
+        id: Id { bytes },
+    }
+}
+
+// 128 digits.
+fn sig_in(s: &[u8], i: usize) -> Bytes64
+    ensures { λ r. ⌜ viewSig r ≡ unhex signatureSize (raw (drop i (now (s .entry)))) ⌝ }
+{
+    let mut digits = [0u8; 128];
+    if !fill_text(s, i, &mut digits) {
+        return no_sig();
+    }
+    base::hex64(&digits)
+}
+
+pub fn id_at(s: &[u8], at: usize) -> IdAt
+    ensures { λ r. ⌜ Takes (now (s .entry)) at (hex keySize) (viewIdAt r) ⌝ }
+{
+    match lookup::string_at(s, at) {
+        Found::Nothing => {
+            return no_id();
+        }
+        Found::At(i) => {
+            return id_in(s, i);
+        }
+    }
+}
+
+fn sig_at(s: &[u8], at: usize) -> Bytes64
+    ensures { λ r. ⌜ Takes (now (s .entry)) at (hex signatureSize) (viewSig r) ⌝ }
+{
+    match lookup::string_at(s, at) {
+        Found::Nothing => {
+            return no_sig();
+        }
+        Found::At(i) => {
+            return sig_in(s, i);
+        }
+    }
+}
+
+// The member of that name, in the object at `at`.
+pub fn id_field(s: &[u8], at: usize, name: &[u8]) -> IdAt
+    ensures { λ r. ⌜ Takes (now (s .entry)) at (must (now (name .entry)) (hex keySize)) (viewIdAt r) ⌝ }
+{
+    match lookup::find_member(s, at, name) {
+        Found::Nothing => {
+            return no_id();
+        }
+        Found::At(x) => {
+            return id_at(s, x);
+        }
+    }
+}
+
+pub fn sig_field(s: &[u8], at: usize) -> Bytes64
+    ensures { λ r. ⌜ Takes (now (s .entry)) at (must (bytes "sig") (hex signatureSize)) (viewSig r) ⌝ }
+{
+    match lookup::find_member(s, at, b"sig") {
+        Found::Nothing => {
+            return no_sig();
+        }
+        Found::At(x) => {
+            return sig_at(s, x);
+        }
+    }
+}
+
+// ---- Numbers
+
+pub fn number_field(s: &[u8], at: usize, name: &[u8], lo: u64, hi: u64) -> Number
+    ensures { λ r. ⌜ Takes (now (s .entry)) at (must (now (name .entry)) (number lo hi)) (viewNumber r) ⌝ }
+{
+    match lookup::find_member(s, at, name) {
+        Found::Nothing => {
+            return Number::No;
+        }
+        Found::At(x) => {
+            return lookup::number_at(s, x, lo, hi);
+        }
+    }
+}
+
+// A member that may be missing: `given` where it is there.
+pub struct MayNumber {
+    pub ok: bool,
+    pub given: bool,
+    pub value: u64,
+}
+
+pub fn number_may(s: &[u8], at: usize, name: &[u8], lo: u64, hi: u64) -> MayNumber
+    ensures { λ r. ⌜ Takes (now (s .entry)) at (may (now (name .entry)) (number lo hi)) (viewMayNumber r) ⌝ }
+{
+    match lookup::find_member(s, at, name) {
+        Found::Nothing => {
+            return MayNumber {
+                ok: true,
+                given: false,
+                value: 0,
+            };
+        }
+        Found::At(x) => match lookup::number_at(s, x, lo, hi) {
+            Number::No => {
+                return MayNumber {
+                    ok: false,
+                    given: false,
+                    value: 0,
+                };
+            }
+            Number::Is(n) => {
+                return MayNumber {
+                    ok: true,
+                    given: true,
+                    value: n,
+                };
+            }
+        },
+    }
+}
+
+// "version" 1 to 2,147,483,647.
+pub fn version_at(s: &[u8], at: usize) -> Number
+    ensures { λ r. ⌜ Takes (now (s .entry)) at version (viewNumber r) ⌝ }
+{
+    number_field(s, at, b"version", 1, records::MAX_VERSION)
+}
+
+// ---- Words and dates
+
+fn word_at(s: &[u8], at: usize, k: &[u8]) -> bool
+    ensures { λ r. ⌜ Takes (now (s .entry)) at (word (now (k .entry))) (keep r tt) ⌝ }
+{
+    match lookup::string_at(s, at) {
+        Found::Nothing => {
+            return false;
+        }
+        Found::At(i) => {
+            return lookup::text_is(s, i, k);
+        }
+    }
+}
+
+// Whether the member of that name is the string `k`.
+pub fn word_field(s: &[u8], at: usize, name: &[u8], k: &[u8]) -> bool
+    ensures { λ r. ⌜ Takes (now (s .entry)) at (must (now (name .entry)) (word (now (k .entry)))) (keep r tt) ⌝ }
+{
+    match lookup::find_member(s, at, name) {
+        Found::Nothing => {
+            return false;
+        }
+        Found::At(x) => {
+            return word_at(s, x, k);
+        }
+    }
+}
+
+fn date_in(s: &[u8], i: usize) -> Date
+    ensures { λ r. ⌜ viewDate r ≡ dateOf (raw (drop i (now (s .entry)))) ⌝ }
+{
+    let mut text = [0u8; 20];
+    if !fill_text(s, i, &mut text) {
+        return Date::Bad;
+    }
+    date::parse(&text)
+}
+
+fn date_at(s: &[u8], at: usize) -> Date
+    ensures { λ r. ⌜ Takes (now (s .entry)) at dateForm (viewDate r) ⌝ }
+{
+    match lookup::string_at(s, at) {
+        Found::Nothing => {
+            return Date::Bad;
+        }
+        Found::At(i) => {
+            return date_in(s, i);
+        }
+    }
+}
+
+// "expires".
+pub fn date_field(s: &[u8], at: usize) -> Date
+    ensures { λ r. ⌜ Takes (now (s .entry)) at (must (bytes "expires") dateForm) (viewDate r) ⌝ }
+{
+    match lookup::find_member(s, at, b"expires") {
+        Found::Nothing => {
+            return Date::Bad;
+        }
+        Found::At(x) => {
+            return date_at(s, x);
+        }
+    }
+}
+
+// ---- What is said of a listed file
+
+pub struct MayId {
+    pub ok: bool,
+    pub given: bool,
+    pub id: Id,
+}
+
+// "hashes", where it is there: its "sha256".
+pub fn digest_may(s: &[u8], at: usize) -> MayId
+    ensures { λ r. ⌜ Takes (now (s .entry)) at (may (bytes "hashes") sha256) (viewMayId r) ⌝ }
+{
+    match lookup::find_member(s, at, b"hashes") {
+        Found::Nothing => {
+            return MayId {
+                ok: true,
+                given: false,
+                id: Id { bytes: [0u8; 32] },
+            };
+        }
+        Found::At(x) => {
+            let digest = id_field(s, x, b"sha256");
+            let id = digest.id;
+            return MayId {
+                ok: digest.ok,
+                given: true,
+                id,
+            };
+        }
+    }
+}
+
+pub struct ListedAt {
+    pub ok: bool,
+    pub listed: Listed,
+}
+
+fn no_listed() -> ListedAt
+    ensures { λ r. ⌜ viewListedAt r ≡ none ⌝ }
+{
+    ListedAt {
+        ok: false,
+        listed: Listed {
+            version: 0,
+            measured: false,
+            length: 0,
+            hashed: false,
+            digest: Id { bytes: [0u8; 32] },
+        },
+    }
+}
+
+// "version", and where they are given "length" and "hashes".
+pub fn listed_at(s: &[u8], at: usize) -> ListedAt
+    ensures { λ r. ⌜ Takes (now (s .entry)) at listedForm (viewListedAt r) ⌝ }
+{
+    match version_at(s, at) {
+        Number::No => {
+            return no_listed();
+        }
+        Number::Is(version) => {
+            let length = number_may(s, at, b"length", 0, records::MAX_LENGTH);
+            if !length.ok {
+                return no_listed();
+            }
+            let digest = digest_may(s, at);
+            let id = digest.id;
+            return ListedAt {
+                ok: digest.ok,
+                listed: Listed {
+                    version,
+                    measured: length.given,
+                    length: length.value,
+                    hashed: digest.given,
+                    digest: id,
+                },
+            };
+        }
+    }
+}

@@ -1,0 +1,46 @@
+-- `public_at` meets its contract.
+use borrow.Author.Needs.{needs}
+use mathlib.Core.Path.{refl}
+use Rattle.forms.proofs.StepLaws.{must-none, must-at}
+use Rattle.json.specs.Fields.{keep}
+use Rattle.forms.specs.View.{viewIdAt}
+use Rattle.root_file.proofs.public_at.Statement.{statement}
+use Rattle.root_file.proofs.public_at.Tie as tie
+
+slice-aggregate-find-member : tie.Need-slice-aggregate-find-member
+slice-aggregate-find-member c = search needs
+
+find-member-requires : tie.Need-find-member-requires
+find-member-requires c κs = search needs
+
+enum-told : tie.Need-enum-told
+enum-told c = search needs
+
+returns : tie.Need-returns
+unfolding viewIdAt keep
+returns c = must-none _ _ _ ((c .before .before) .find-member .ensures) _ _ (c .enum-told .given .1) refl
+
+enum-known-x : tie.Need-enum-known-x
+enum-known-x c = search needs
+
+slice-aggregate-id-field : tie.Need-slice-aggregate-id-field
+slice-aggregate-id-field c = search needs
+
+id-field-requires : tie.Need-id-field-requires
+id-field-requires c κs = search needs
+
+returns-2 : tie.Need-returns-2
+returns-2 c = must-at _ _ _ ((c .before .before .before .before .before) .find-member .ensures) _ _ _ ((c .before .before .before) .x .given .1) (c .id-field .ensures)
+
+pub public-at-spec : {M : Type 1} → statement M
+public-at-spec =
+    tie.close
+    (tie.spec
+    slice-aggregate-find-member
+    find-member-requires
+    enum-told
+    returns
+    enum-known-x
+    slice-aggregate-id-field
+    id-field-requires
+    returns-2)

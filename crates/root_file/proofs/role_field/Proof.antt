@@ -1,0 +1,41 @@
+-- `role_field` meets its contract.
+use borrow.Author.Needs.{needs}
+use Rattle.forms.proofs.StepLaws.{must-none, must-at}
+use Rattle.root_file.specs.View.{viewRoleAt}
+use Rattle.root_file.proofs.KeepLaws.{cut}
+use Rattle.root_file.proofs.role_field.Statement.{statement}
+use Rattle.root_file.proofs.role_field.Tie as tie
+
+find-member-requires : tie.Need-find-member-requires
+find-member-requires c κs = search needs
+
+enum-told : tie.Need-enum-told
+enum-told c = search needs
+
+no-role-requires : tie.Need-no-role-requires
+no-role-requires c κs = search needs
+
+returns : tie.Need-returns
+unfolding viewRoleAt
+returns c = must-none _ _ _ ((c .before .before .before) .find-member .ensures) _ _ ((c .before) .enum-told .given .1) (cut _ (c .no-role .ensures))
+
+enum-known-x : tie.Need-enum-known-x
+enum-known-x c = search needs
+
+role-at-requires : tie.Need-role-at-requires
+role-at-requires c κs = search needs
+
+returns-2 : tie.Need-returns-2
+returns-2 c = must-at _ _ _ ((c .before .before .before .before) .find-member .ensures) _ _ _ ((c .before .before) .x .given .1) (c .role-at .ensures)
+
+pub role-field-spec : {M : Type 1} → statement M
+role-field-spec =
+    tie.close
+    (tie.spec
+    find-member-requires
+    enum-told
+    no-role-requires
+    returns
+    enum-known-x
+    role-at-requires
+    returns-2)
