@@ -72,7 +72,8 @@ pub struct EntriesAt {
     pub entries: Entries,
 }
 
-fn no_ids() -> Entries
+// No entries, for a refusal.
+pub fn no_ids() -> Entries
     ensures { λ r. ⌜ r .count ≡ 0 ⌝ }
 {
     Entries {
