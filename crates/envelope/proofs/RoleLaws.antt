@@ -27,6 +27,7 @@ use Rattle.envelope.specs.Header.{Header, header}
 use Rattle.envelope.specs.Open.{IsOpen, IsShut, Opens, Headed, headed, headedBy, IsHeaded, Heads, fault, viewRead}
 use Rattle.envelope.specs.declared.Opened.{Opened}
 use Rattle.envelope.specs.declared.RoleFile.{RoleFile}
+use Rattle.envelope.proofs.OpenLaws.{cut, held}
 use Rattle.envelope.proofs.HeaderLaws.{file, no-file, file-by}
 
 -- ## Numbers of refusals
@@ -156,26 +157,29 @@ module _ {A B : Type 0} (type : Bytes) (body : Json → Option A) (keepIt : File
   unfolding viewRead kept
   role-refused x e = rw (refused-as type body bytes r w x, e, ne-eqb (r .answer) 0 x)
 
-  module _ (z : r .answer ≡ 0) where
-    pub role-broken : Takes bytes (r .start) body none → n ≡ 3 → viewRead n b es ≡ kept keepIt (readAs type body bytes)
+  module _ (z : r .answer ≡ 0) (ok : Bool) (a : A) (t : Takes bytes (r .start) body (keep ok a)) where
+    pub role-broken : ok ≡ false → n ≡ 3 → viewRead n b es ≡ kept keepIt (readAs type body bytes)
     unfolding viewRead kept fault
-    role-broken t e =
+    role-broken o e =
         let d = ended type body bytes r w z in
-        let s : readAs type body bytes ≡ refused badForm = d .is ∙ ending-none type body (d .spec) r (body (d .signed)) (sym (t (d .signed) (d .stands))) in
-        rw (s, e)
+        let s : readAs type body bytes ≡ refused badForm =
+        d .is ∙ ending-none type body (d .spec) r (body (d .signed)) (sym (t (d .signed) (d .stands)) ∙ cut ok a o)
+        in rw (s, e)
 
-    module _ (a : A) (t : Takes bytes (r .start) body (some a)) where
+    module _ (o : ok ≡ true) where
       pub role-other : r .known ≡ false → n ≡ 4 → viewRead n b es ≡ kept keepIt (readAs type body bytes)
       unfolding viewRead kept fault
       role-other k e =
           let d = ended type body bytes r w z in
-          let s : readAs type body bytes ≡ refused otherSpec = d .is ∙ ending-other type body (d .spec) r (body (d .signed)) a (sym (t (d .signed) (d .stands))) k in
-          rw (s, e)
+          let s : readAs type body bytes ≡ refused otherSpec =
+          d .is ∙ ending-other type body (d .spec) r (body (d .signed)) a (sym (t (d .signed) (d .stands)) ∙ held ok a o) k
+          in rw (s, e)
 
-      pub role-says : r .known ≡ true → n ≡ 0 → ((spec : Bytes) → b ≡ keepIt (file spec (r .version) (r .expires .seconds) a)) → es ≡ viewEntries (r .entries)
-          → viewRead n b es ≡ kept keepIt (readAs type body bytes)
+      pub role-says : r .known ≡ true → n ≡ 0 → ((spec : Bytes) → b ≡ keepIt (file spec (r .version) (r .expires .seconds) a))
+          → es ≡ viewEntries (r .entries) → viewRead n b es ≡ kept keepIt (readAs type body bytes)
       unfolding viewRead kept
       role-says k e m f =
           let d = ended type body bytes r w z in
-          let s : readAs type body bytes ≡ says (file (d .spec) (r .version) (r .expires .seconds) a) (viewEntries (r .entries)) = d .is ∙ ending-says type body (d .spec) r (body (d .signed)) a (sym (t (d .signed) (d .stands))) k in
-          rw (s, e, m (d .spec), f)
+          let s : readAs type body bytes ≡ says (file (d .spec) (r .version) (r .expires .seconds) a) (viewEntries (r .entries)) =
+          d .is ∙ ending-says type body (d .spec) r (body (d .signed)) a (sym (t (d .signed) (d .stands)) ∙ held ok a o) k
+          in rw (s, e, m (d .spec), f)

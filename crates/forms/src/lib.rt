@@ -301,7 +301,8 @@ pub struct ListedAt {
     pub listed: Listed,
 }
 
-fn no_listed() -> ListedAt
+// Nothing, for a form that is broken.
+pub fn no_listed() -> ListedAt
     ensures { λ r. ⌜ viewListedAt r ≡ none ⌝ }
 {
     ListedAt {
