@@ -1,7 +1,7 @@
 -- Signature entries: one entry, and the keyids of all of them.
-use mathlib.Core.Path.{_≡_, refl, sym, ap, _∙_}
+use mathlib.Core.Path.{_≡_, refl}
 use mathlib.Core.Option.{Option, none, some, bind}
-use mathlib.Core.List.{List, [], _∷_}
+use mathlib.Core.List.{List, _∷_}
 use mathlib.Core.Bool.{Bool, true, false, _&&_}
 use Prim.Native.Nat.{ℕ}
 use native.Mathlib.Omega.{arith}
@@ -17,7 +17,6 @@ use Rattle.rules.specs.Records.{Entry}
 use Rattle.rules.specs.Forms.{entry, entries}
 use Rattle.rules.specs.Reading.{keyidsOf}
 use Rattle.forms.specs.Each.{eachItem}
-use Rattle.forms.proofs.StepLaws.{stop, on}
 use Rattle.forms.proofs.ListedLaws.{keep-in}
 use Rattle.envelope.specs.Header.{keyids}
 

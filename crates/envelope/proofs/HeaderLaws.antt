@@ -1,7 +1,7 @@
 -- The header, step by step, and how a header and a body make a role's file.
-use mathlib.Core.Path.{_≡_, refl, sym, ap, _∙_}
+use mathlib.Core.Path.{_≡_, refl, sym}
 use mathlib.Core.Option.{Option, none, some, bind}
-use mathlib.Core.List.{List, [], _∷_}
+use mathlib.Core.List.{[], _∷_}
 use mathlib.Core.Bool.{Bool, true, false, and-true}
 use Prim.Native.Nat.{ℕ}
 use lib.Dec.{eqb}

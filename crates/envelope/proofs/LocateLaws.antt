@@ -3,11 +3,11 @@ use mathlib.Core.Path.{_≡_, refl, sym, ap, _∙_}
 use mathlib.Core.List.{[], _∷_, _++_}
 use mathlib.Core.Option.{Option, none, some, bind}
 use mathlib.Core.Bool.{true, false, cond}
-use Prim.Native.Nat.{ℕ, suc, _+_, _-_, _<_}
+use Prim.Native.Nat.{ℕ, suc, _+_, _-_}
 use native.Mathlib.Omega.{arith}
 use lib.ListN.{length, drop, length-append, length-drop}
 use Rattle.base.specs.Bytes.{Bytes, same}
-use Rattle.json.specs.Json.{Json, str, Members, mnil, mcons, put, putBytes, putStr}
+use Rattle.json.specs.Json.{Json, str, Members, mcons, put, putBytes, putStr}
 use Rattle.json.specs.Read.{raw}
 use Rattle.json.specs.Fields.{members}
 use Rattle.json.proofs.Puts.{put-str}

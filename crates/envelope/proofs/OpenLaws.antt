@@ -1,11 +1,10 @@
 -- Opening a file, step by step: refusals 1 to 3, the signed part and the keyids.
-use mathlib.Core.Path.{_≡_, refl, sym, ap, _∙_}
+use mathlib.Core.Path.{_≡_, refl, sym, _∙_}
 use mathlib.Core.Option.{Option, none, some, bind}
 use mathlib.Core.List.{List, []}
 use mathlib.Core.Bool.{Bool, true, false}
-use Prim.Native.Nat.{ℕ, _+_, _-_, _<_, _≤_}
+use Prim.Native.Nat.{ℕ, _-_, _<_, _≤_}
 use native.Mathlib.Omega.{arith}
-use lib.Dec.{leb}
 use lib.ListN.{length}
 use borrow.Author.Tests.{le-leb, lt-leb}
 use Rattle.base.specs.Bytes.{Bytes, bytes}
@@ -26,7 +25,7 @@ use Rattle.rules.proofs.ReadingLaws.{parsed-exactly}
 use Rattle.records.specs.View.{viewEntries}
 use Rattle.forms.proofs.StepLaws.{stop}
 use Rattle.envelope.specs.Header.{keyids}
-use Rattle.envelope.specs.Open.{viewFound, Locates, object, IsOpen, IsShut, Opens}
+use Rattle.envelope.specs.Open.{viewFound, Locates, object, IsShut, Opens}
 use Rattle.envelope.specs.declared.Opened.{Opened}
 use Rattle.envelope.proofs.LocateLaws.{value-length}
 

@@ -6,7 +6,7 @@ use mathlib.Core.List.{List}
 use mathlib.Core.Bool.{Bool, true, false, cond}
 use Prim.Native.Nat.{ℕ}
 use native.Mathlib.Omega.{arith}
-use lib.Dec.{leb, eqb}
+use lib.Dec.{leb}
 use lib.IntN.{ℤ}
 use lib.ListN.{length}
 use borrow.Author.Tests.{ne-eqb}
@@ -21,10 +21,9 @@ use Rattle.rules.specs.Forms.{Envelope, envelope, knownSpec, fileOf}
 use Rattle.rules.specs.Reading.{parsed, judgedText, readWith, keyidsOf, opened, readEnvelope, known, spoken, inEnvelope, readAs}
 use Rattle.rules.specs.State.{kept}
 use Rattle.rules.specs.Steps.{faultNumber}
-use Rattle.rules.proofs.OptionLaws.{none-not-some, some-is}
 use Rattle.records.specs.View.{viewEntries}
 use Rattle.envelope.specs.Header.{Header, header}
-use Rattle.envelope.specs.Open.{IsOpen, IsShut, Opens, Headed, headed, headedBy, IsHeaded, Heads, fault, viewRead}
+use Rattle.envelope.specs.Open.{Opens, headed, headedBy, Heads, fault, viewRead}
 use Rattle.envelope.specs.declared.Opened.{Opened}
 use Rattle.envelope.specs.declared.RoleFile.{RoleFile}
 use Rattle.envelope.proofs.OpenLaws.{cut, held}

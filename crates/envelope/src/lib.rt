@@ -2,7 +2,7 @@
 ghost use mathlib.Core.Path.{_≡_};
 ghost use mathlib.Core.Option.{none};
 ghost use lib.ListN.{drop, take};
-ghost use Rattle.base.specs.Bytes.{Bytes, bytes, same};
+ghost use Rattle.base.specs.Bytes.{bytes, same};
 ghost use Rattle.json.specs.Json.{Json};
 ghost use Rattle.json.specs.Read.{raw};
 ghost use Rattle.json.specs.Fields.{keep};

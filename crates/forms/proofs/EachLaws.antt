@@ -22,7 +22,7 @@ use Rattle.lookup.proofs.ItemLaws.{item-stands}
 use Rattle.lookup.proofs.MemberLaws.{member-stands, member-name}
 use Rattle.rules.specs.Take.{_>>=_, each, eachNamed}
 use Rattle.forms.specs.Each.{eachItem, eachMember}
-use Rattle.forms.proofs.StepLaws.{stop, on}
+use Rattle.forms.proofs.StepLaws.{on}
 
 -- ## What the parts say, one after the other
 

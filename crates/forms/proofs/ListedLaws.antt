@@ -1,5 +1,5 @@
 -- What is said of a listed file, step by step.
-use mathlib.Core.Path.{_≡_, refl, sym, ap, _∙_}
+use mathlib.Core.Path.{_≡_, refl}
 use mathlib.Core.Option.{Option, none, some, bind}
 use mathlib.Core.Bool.{Bool, true, false}
 use Prim.Native.Nat.{ℕ}
@@ -9,7 +9,6 @@ use Rattle.json.specs.Fields.{keep, number}
 use Rattle.records.specs.View.{viewId}
 use Rattle.rules.specs.Limits.{maxLength}
 use Rattle.rules.specs.Take.{_>>=_, may}
-use Rattle.rules.specs.Records.{Listed}
 use Rattle.rules.specs.Forms.{version, sha256, listed}
 use Rattle.forms.specs.View.{viewIdAt, viewMayId}
 use Rattle.forms.specs.declared.IdAt.{IdAt}

@@ -1,5 +1,5 @@
 -- Steps of a form at a place of the text: what is nothing stays nothing, and what is found is handed on.
-use mathlib.Core.Path.{_≡_, refl, sym, _∙_}
+use mathlib.Core.Path.{_≡_, sym, _∙_}
 use mathlib.Core.Option.{Option, none, some, bind}
 use Prim.Native.Nat.{ℕ}
 use lib.ListN.{drop}

@@ -1,14 +1,13 @@
 -- Strings of a known length: a buffer that is filled, hex that is undone, a date.
 use mathlib.Core.Path.{_≡_, refl, sym, ap, _∙_}
-use mathlib.Core.List.{[], _∷_, _++_, append-nil}
-use mathlib.Core.Option.{Option, none, some}
+use mathlib.Core.List.{[], _∷_, append-nil}
+use mathlib.Core.Option.{none, some}
 use mathlib.Core.Bool.{Bool, true, false, cond}
-use Prim.Native.Nat.{ℕ, zero, suc, _+_, _*_, _≤_}
+use Prim.Native.Nat.{ℕ, zero, suc, _*_}
 use native.Mathlib.Omega.{arith}
-use lib.Dec.{eqb}
-use lib.ListN.{length, take, drop}
+use lib.ListN.{length}
 use lib.Seq.{take-all}
-use borrow.Author.Tests.{eq-eqb, ne-eqb, eqb-true, eqb-false, le-leb}
+use borrow.Author.Tests.{eq-eqb, ne-eqb, eqb-false, le-leb}
 use Rattle.base.specs.Bytes.{Bytes}
 use Rattle.base.specs.Window.{window}
 use Rattle.base.specs.Hex.{isHex, undo, Undone}
@@ -17,7 +16,7 @@ use Rattle.base.proofs.HexLaws.{not-long, hex-parts}
 use Rattle.base.proofs.WindowLaws.{window-part}
 use Rattle.json.specs.Fields.{keep}
 use Rattle.lookup.specs.Leaves.{copied, Copies}
-use Rattle.date.specs.Calendar.{form, hasForm, dateOf}
+use Rattle.date.specs.Calendar.{form, dateOf}
 use Rattle.date.proofs.FormLaws.{form-lengths}
 use Rattle.rules.specs.Take.{unhex}
 use Rattle.forms.specs.View.{Fills}

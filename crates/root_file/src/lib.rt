@@ -2,7 +2,7 @@
 ghost use mathlib.Core.Path.{_≡_};
 ghost use mathlib.Core.Bool.{false};
 ghost use lib.ListN.{drop};
-ghost use Rattle.base.specs.Bytes.{Bytes, bytes};
+ghost use Rattle.base.specs.Bytes.{bytes};
 ghost use Rattle.json.specs.Read.{raw};
 ghost use Rattle.json.specs.Fields.{keep};
 ghost use Rattle.lookup.specs.Place.{Takes};
@@ -211,10 +211,10 @@ fn keys_field(s: &[u8], at: usize) -> KeysAt
 // ---- Roles
 
 // A role's keyids as bits over the key table, and how many there are.
-pub struct NamingAt {
-    pub ok: bool,
-    pub keys: u16,
-    pub count: usize,
+struct NamingAt {
+    ok: bool,
+    keys: u16,
+    count: usize,
 }
 
 fn no_naming() -> NamingAt
@@ -340,12 +340,12 @@ fn role_field(s: &[u8], at: usize, name: &[u8], table: KeyTable) -> RoleAt
     }
 }
 
-pub struct RolesAt {
-    pub ok: bool,
-    pub root: Role,
-    pub timestamp: Role,
-    pub snapshot: Role,
-    pub targets: Role,
+struct RolesAt {
+    ok: bool,
+    root: Role,
+    timestamp: Role,
+    snapshot: Role,
+    targets: Role,
 }
 
 fn no_roles() -> RolesAt

@@ -2,7 +2,7 @@
 use borrow.Author.Needs.{needs}
 use Rattle.forms.proofs.TextLaws.{date-not, date-is}
 use borrow.Author.Tests.{not-true, not-false}
-use mathlib.Core.Path.{refl, sym, ap, _∙_}
+use mathlib.Core.Path.{refl, _∙_}
 use Rattle.forms.proofs.date_in.Statement.{statement}
 use Rattle.forms.proofs.date_in.Tie as tie
 

@@ -2,7 +2,6 @@
 use borrow.Author.Needs.{needs}
 use Rattle.forms.proofs.StepLaws.{may-none, may-at}
 use Rattle.lookup.proofs.NumberLaws.{number-takes}
-use Rattle.lookup.specs.Leaves.{viewNumber}
 use Rattle.json.specs.Fields.{keep}
 use Rattle.forms.specs.View.{viewMayNumber}
 use mathlib.Core.Option.{bind}

@@ -1,8 +1,8 @@
 -- `keys_field` meets its contract.
 use borrow.Author.Needs.{needs}
 use Rattle.forms.proofs.StepLaws.{must-none, must-at}
+use Rattle.envelope.proofs.OpenLaws.{cut}
 use Rattle.root_file.specs.View.{viewKeysAt}
-use Rattle.root_file.proofs.KeepLaws.{cut}
 use Rattle.root_file.proofs.keys_field.Statement.{statement}
 use Rattle.root_file.proofs.keys_field.Tie as tie
 
@@ -20,7 +20,7 @@ no-keys-requires c κs = search needs
 
 returns : tie.Need-returns
 unfolding viewKeysAt
-returns c = must-none _ _ _ ((c .before .before .before) .find-member .ensures) _ _ ((c .before) .enum-told .given .1) (cut _ (c .no-keys .ensures))
+returns c = must-none _ _ _ ((c .before .before .before) .find-member .ensures) _ _ ((c .before) .enum-told .given .1) (cut _ _ (c .no-keys .ensures))
 
 enum-known-x : tie.Need-enum-known-x
 enum-known-x c = search needs

@@ -7,15 +7,17 @@ use mathlib.Core.Path.{refl, _∙_}
 use Rattle.json.specs.Json.{Json}
 use Rattle.lookup.specs.Place.{Stands}
 use Rattle.lookup.proofs.ItemLaws.{ahead, ahead-less}
+use Rattle.rules.specs.Limits.{maxKeyids}
 use Rattle.forms.specs.View.{viewIdAt}
 use Rattle.root_file.specs.View.{viewNamingAt}
-use Rattle.root_file.proofs.KeepLaws.{nothing, whole, takes-none, takes-some}
+use Rattle.envelope.proofs.OpenLaws.{held}
+use Rattle.root_file.proofs.KeepLaws.{nothing, takes-none, takes-some}
 use Rattle.root_file.proofs.RoleLaws.{Gathered, gathered-first, no-keyids, few-keyids, naming-is, many-keyids, no-keyid, other-keyid, same-keyid, gathered-next}
 use Rattle.root_file.proofs.naming_at.Statement.{statement}
 use Rattle.root_file.proofs.naming_at.Tie as tie
 
 abbrev Inv-loop : tie.InvT-loop
-Inv-loop s at table keys₀ n₀ e₀ keys n e = (n ≤ 16) × ((v : Json) → Stands s at v → Gathered table s v keys n e)
+Inv-loop s at table keys₀ n₀ e₀ keys n e = (n ≤ maxKeyids) × ((v : Json) → Stands s at v → Gathered table s v keys n e)
 
 abbrev μ-loop : tie.MeasureT-loop
 μ-loop s at table keys₀ n₀ e₀ keys n e = ahead s e
@@ -34,7 +36,10 @@ no-naming-requires c κs = search needs
 
 returns : tie.Need-returns Inv-loop μ-loop
 unfolding viewNamingAt
-returns c = let l = (c .before .before .before .before .before) .loop in λ v h. nothing _ (c .no-naming .ensures) (many-keyids ((c .before .before .before .before .before .before .before .before) .args .table) ((c .before .before .before .before .before .before .before .before) .args .s .now) v (l .keys) (l .n) (l .e) (l .inv .1 v h) _ ((c .before .before .before) .e .given .1) ((c .before) .if1 .taken))
+returns c =
+    let a = (c .before .before .before .before .before .before .before .before) .args in
+    let l = (c .before .before .before .before .before) .loop in
+    λ v h. nothing _ (c .no-naming .ensures) (many-keyids (a .table) (a .s .now) v (l .keys) (l .n) (l .e) (l .inv .1 v h) _ ((c .before .before .before) .e .given .1) ((c .before) .if1 .taken))
 
 id-at-requires : tie.Need-id-at-requires Inv-loop μ-loop
 id-at-requires c κs = search needs
@@ -44,7 +49,10 @@ no-naming-requires-2 c κs = search needs
 
 returns-2 : tie.Need-returns-2 Inv-loop μ-loop
 unfolding viewNamingAt viewIdAt
-returns-2 c = let l = (c .before .before .before .before .before .before .before .before) .loop in λ v h. nothing _ (c .no-naming2 .ensures) (no-keyid ((c .before .before .before .before .before .before .before .before .before .before .before) .args .table) ((c .before .before .before .before .before .before .before .before .before .before .before) .args .s .now) v (l .keys) (l .n) (l .e) (l .inv .1 v h) _ ((c .before .before .before .before .before .before) .e .given .1) (takes-none _ _ _ _ ((c .before .before .before) .id-at .ensures) (not-true _ ((c .before) .if2 .taken))))
+returns-2 c =
+    let a = (c .before .before .before .before .before .before .before .before .before .before .before) .args in
+    let l = (c .before .before .before .before .before .before .before .before) .loop in
+    λ v h. nothing _ (c .no-naming2 .ensures) (no-keyid (a .table) (a .s .now) v (l .keys) (l .n) (l .e) (l .inv .1 v h) _ ((c .before .before .before .before .before .before) .e .given .1) (takes-none _ _ _ _ ((c .before .before .before) .id-at .ensures) (not-true _ ((c .before) .if2 .taken))))
 
 places-of-requires : tie.Need-places-of-requires Inv-loop μ-loop
 places-of-requires c κs = search needs
@@ -54,14 +62,20 @@ no-naming-requires-3 c κs = search needs
 
 returns-3 : tie.Need-returns-3 Inv-loop μ-loop
 unfolding viewNamingAt viewIdAt
-returns-3 c = let l = (c .before .before .before .before .before .before .before .before .before .before) .loop in λ v h. nothing _ (c .no-naming3 .ensures) (other-keyid ((c .before .before .before .before .before .before .before .before .before .before .before .before .before) .args .table) ((c .before .before .before .before .before .before .before .before .before .before .before .before .before) .args .s .now) v (l .keys) (l .n) (l .e) (l .inv .1 v h) _ ((c .before .before .before .before .before .before .before .before) .e .given .1) _ (takes-some _ _ _ _ ((c .before .before .before .before .before) .id-at .ensures) (not-false _ ((c .before .before .before) .if2 .left))) ((c .before .before) .places-of .result) ((c .before .before) .places-of .ensures) ((c .before) .if3 .taken))
+returns-3 c =
+    let a = (c .before .before .before .before .before .before .before .before .before .before .before .before .before) .args in
+    let l = (c .before .before .before .before .before .before .before .before .before .before) .loop in
+    λ v h. nothing _ (c .no-naming3 .ensures) (other-keyid (a .table) (a .s .now) v (l .keys) (l .n) (l .e) (l .inv .1 v h) _ ((c .before .before .before .before .before .before .before .before) .e .given .1) _ (takes-some _ _ _ _ ((c .before .before .before .before .before) .id-at .ensures) (not-false _ ((c .before .before .before) .if2 .left))) ((c .before .before) .places-of .result) ((c .before .before) .places-of .ensures) ((c .before) .if3 .taken))
 
 no-naming-requires-4 : tie.Need-no-naming-requires-4 Inv-loop μ-loop
 no-naming-requires-4 c κs = search needs
 
 returns-4 : tie.Need-returns-4 Inv-loop μ-loop
 unfolding viewNamingAt viewIdAt
-returns-4 c = let l = (c .before .before .before .before .before .before .before .before .before .before .before) .loop in λ v h. nothing _ (c .no-naming4 .ensures) (same-keyid ((c .before .before .before .before .before .before .before .before .before .before .before .before .before .before) .args .table) ((c .before .before .before .before .before .before .before .before .before .before .before .before .before .before) .args .s .now) v (l .keys) (l .n) (l .e) (l .inv .1 v h) _ ((c .before .before .before .before .before .before .before .before .before) .e .given .1) _ (takes-some _ _ _ _ ((c .before .before .before .before .before .before) .id-at .ensures) (not-false _ ((c .before .before .before .before) .if2 .left))) ((c .before .before .before) .places-of .result) ((c .before .before .before) .places-of .ensures) (omega arith) ((c .before .before) .if3 .left) ((c .before) .if4 .taken))
+returns-4 c =
+    let a = (c .before .before .before .before .before .before .before .before .before .before .before .before .before .before) .args in
+    let l = (c .before .before .before .before .before .before .before .before .before .before .before) .loop in
+    λ v h. nothing _ (c .no-naming4 .ensures) (same-keyid (a .table) (a .s .now) v (l .keys) (l .n) (l .e) (l .inv .1 v h) _ ((c .before .before .before .before .before .before .before .before .before) .e .given .1) _ (takes-some _ _ _ _ ((c .before .before .before .before .before .before) .id-at .ensures) (not-false _ ((c .before .before .before .before) .if2 .left))) ((c .before .before .before) .places-of .result) ((c .before .before .before) .places-of .ensures) (omega arith) ((c .before .before) .if3 .left) ((c .before) .if4 .taken))
 
 add-n : tie.Need-add-n Inv-loop μ-loop
 add-n c = omega arith
@@ -70,11 +84,17 @@ next-element-requires : tie.Need-next-element-requires Inv-loop μ-loop
 next-element-requires c κs = search needs
 
 loop-less : tie.Need-loop-less Inv-loop μ-loop
-loop-less c = let l = (c .before .before .before .before .before .before .before .before .before .before .before) .loop in ahead-less ((c .before .before .before .before .before .before .before .before .before .before .before .before .before .before) .args .s .now) (l .e) _ ((c .before .before .before .before .before .before .before .before .before) .e .given .1) (c .next-element .result) (c .next-element .ensures .onward)
+loop-less c =
+    let a = (c .before .before .before .before .before .before .before .before .before .before .before .before .before .before) .args in
+    let l = (c .before .before .before .before .before .before .before .before .before .before .before) .loop in
+    ahead-less (a .s .now) (l .e) _ ((c .before .before .before .before .before .before .before .before .before) .e .given .1) (c .next-element .result) (c .next-element .ensures .onward)
 
 loop-again : tie.Need-loop-again Inv-loop μ-loop
 unfolding viewIdAt
-loop-again c = let l = (c .before .before .before .before .before .before .before .before .before .before .before) .loop in (omega arith, λ v h. gathered-next ((c .before .before .before .before .before .before .before .before .before .before .before .before .before .before) .args .table) ((c .before .before .before .before .before .before .before .before .before .before .before .before .before .before) .args .s .now) v (l .keys) (l .n) (l .e) (l .inv .1 v h) _ ((c .before .before .before .before .before .before .before .before .before) .e .given .1) _ (takes-some _ _ _ _ ((c .before .before .before .before .before .before) .id-at .ensures) (not-false _ ((c .before .before .before .before) .if2 .left))) ((c .before .before .before) .places-of .result) ((c .before .before .before) .places-of .ensures) (omega arith) ((c .before .before) .if3 .left) ((c .before) .if4 .left) (c .next-element .result) (c .next-element .ensures))
+loop-again c =
+    let a = (c .before .before .before .before .before .before .before .before .before .before .before .before .before .before) .args in
+    let l = (c .before .before .before .before .before .before .before .before .before .before .before) .loop in
+    (omega arith, λ v h. gathered-next (a .table) (a .s .now) v (l .keys) (l .n) (l .e) (l .inv .1 v h) _ ((c .before .before .before .before .before .before .before .before .before) .e .given .1) _ (takes-some _ _ _ _ ((c .before .before .before .before .before .before) .id-at .ensures) (not-false _ ((c .before .before .before .before) .if2 .left))) ((c .before .before .before) .places-of .result) ((c .before .before .before) .places-of .ensures) (omega arith) ((c .before .before) .if3 .left) ((c .before) .if4 .left) (c .next-element .result) (c .next-element .ensures))
 
 enum-told : tie.Need-enum-told Inv-loop μ-loop
 enum-told c = search needs
@@ -84,7 +104,10 @@ no-naming-requires-5 c κs = search needs
 
 returns-5 : tie.Need-returns-5 Inv-loop μ-loop
 unfolding viewNamingAt
-returns-5 c = let l = (c .before .before .before) .loop in λ v h. nothing _ (c .no-naming5 .ensures) (no-keyids ((c .before .before .before .before .before .before) .args .table) ((c .before .before .before .before .before .before) .args .s .now) v (l .keys) (l .n) (l .e) (l .inv .1 v h) ((c .before) .enum-told .given .1))
+returns-5 c =
+    let a = (c .before .before .before .before .before .before) .args in
+    let l = (c .before .before .before) .loop in
+    λ v h. nothing _ (c .no-naming5 .ensures) (no-keyids (a .table) (a .s .now) v (l .keys) (l .n) (l .e) (l .inv .1 v h) ((c .before) .enum-told .given .1))
 
 enum-told-2 : tie.Need-enum-told-2 Inv-loop μ-loop
 enum-told-2 c = search needs
@@ -94,11 +117,17 @@ no-naming-requires-6 c κs = search needs
 
 returns-6 : tie.Need-returns-6 Inv-loop μ-loop
 unfolding viewNamingAt
-returns-6 c = let l = (c .before .before .before .before) .loop in λ v h. nothing _ (c .no-naming6 .ensures) (few-keyids ((c .before .before .before .before .before .before .before) .args .table) ((c .before .before .before .before .before .before .before) .args .s .now) v (l .keys) (l .n) (l .e) (l .inv .1 v h) ((c .before .before) .enum-told2 .given .1) ((c .before) .if5 .taken))
+returns-6 c =
+    let a = (c .before .before .before .before .before .before .before) .args in
+    let l = (c .before .before .before .before) .loop in
+    λ v h. nothing _ (c .no-naming6 .ensures) (few-keyids (a .table) (a .s .now) v (l .keys) (l .n) (l .e) (l .inv .1 v h) ((c .before .before) .enum-told2 .given .1) ((c .before) .if5 .taken))
 
 returns-7 : tie.Need-returns-7 Inv-loop μ-loop
 unfolding viewNamingAt
-returns-7 c = let l = (c .before .before .before) .loop in λ v h. whole _ refl ∙ naming-is ((c .before .before .before .before .before .before) .args .table) ((c .before .before .before .before .before .before) .args .s .now) v (l .keys) (l .n) (l .e) (l .inv .1 v h) ((c .before) .enum-told2 .given .1) (c .if5 .left) (l .inv .0)
+returns-7 c =
+    let a = (c .before .before .before .before .before .before) .args in
+    let l = (c .before .before .before) .loop in
+    λ v h. held _ _ refl ∙ naming-is (a .table) (a .s .now) v (l .keys) (l .n) (l .e) (l .inv .1 v h) ((c .before) .enum-told2 .given .1) (c .if5 .left) (l .inv .0)
 
 pub naming-at-spec : {M : Type 1} → statement M
 naming-at-spec =

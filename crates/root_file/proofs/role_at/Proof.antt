@@ -5,7 +5,8 @@ use mathlib.Core.Path.{refl, sym, ap, _∙_}
 use Rattle.lookup.specs.Leaves.{viewNumber}
 use Rattle.records.specs.View.{viewRole}
 use Rattle.root_file.specs.View.{viewNamingAt, viewRoleAt}
-use Rattle.root_file.proofs.KeepLaws.{nothing, whole}
+use Rattle.envelope.proofs.OpenLaws.{held}
+use Rattle.root_file.proofs.KeepLaws.{nothing}
 use Rattle.root_file.proofs.RoleLaws.{no-naming, no-threshold, role-is}
 use Rattle.root_file.proofs.role_at.Statement.{statement}
 use Rattle.root_file.proofs.role_at.Tie as tie
@@ -41,7 +42,7 @@ enum-known-threshold c = search needs
 
 returns-3 : tie.Need-returns-3
 unfolding viewRoleAt viewRole viewNamingAt
-returns-3 c = λ v h. whole _ refl ∙ role-is _ v _ _ ((c .before .before .before .before .before .before .before) .naming-field .ensures v h) (not-false _ ((c .before .before .before .before .before) .if1 .left)) _ (ap viewNumber (sym ((c .before) .threshold .given .1)) ∙ (c .before .before .before) .number-field .ensures v h)
+returns-3 c = λ v h. held _ _ refl ∙ role-is _ v _ _ ((c .before .before .before .before .before .before .before) .naming-field .ensures v h) (not-false _ ((c .before .before .before .before .before) .if1 .left)) _ (ap viewNumber (sym ((c .before) .threshold .given .1)) ∙ (c .before .before .before) .number-field .ensures v h)
 
 pub role-at-spec : {M : Type 1} → statement M
 role-at-spec =

@@ -1,8 +1,8 @@
 -- `role_field` meets its contract.
 use borrow.Author.Needs.{needs}
 use Rattle.forms.proofs.StepLaws.{must-none, must-at}
+use Rattle.envelope.proofs.OpenLaws.{cut}
 use Rattle.root_file.specs.View.{viewRoleAt}
-use Rattle.root_file.proofs.KeepLaws.{cut}
 use Rattle.root_file.proofs.role_field.Statement.{statement}
 use Rattle.root_file.proofs.role_field.Tie as tie
 
@@ -17,7 +17,7 @@ no-role-requires c κs = search needs
 
 returns : tie.Need-returns
 unfolding viewRoleAt
-returns c = must-none _ _ _ ((c .before .before .before) .find-member .ensures) _ _ ((c .before) .enum-told .given .1) (cut _ (c .no-role .ensures))
+returns c = must-none _ _ _ ((c .before .before .before) .find-member .ensures) _ _ ((c .before) .enum-told .given .1) (cut _ _ (c .no-role .ensures))
 
 enum-known-x : tie.Need-enum-known-x
 enum-known-x c = search needs

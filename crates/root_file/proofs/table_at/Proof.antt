@@ -8,19 +8,21 @@ use lib.ListN.{length, length-set}
 use Rattle.json.specs.Json.{Json}
 use Rattle.lookup.specs.Place.{Stands}
 use Rattle.lookup.proofs.MemberLaws.{ahead, ahead-less}
+use Rattle.rules.specs.Limits.{maxKeys}
 use Rattle.rules.specs.Forms.{key}
 use Rattle.records.specs.View.{viewKey, noKey}
 use Rattle.forms.specs.Each.{eachMember}
 use Rattle.forms.proofs.ArrayLaws.{front, front-none, front-more}
 use Rattle.forms.proofs.EachLaws.{MembersWalk, members-first, members-none, members-few, members-over, members-full, members-broken, members-next}
 use Rattle.root_file.specs.View.{viewKeyAt, viewKeysAt}
-use Rattle.root_file.proofs.KeepLaws.{nothing, whole, takes-none, takes-some}
+use Rattle.envelope.proofs.OpenLaws.{held}
+use Rattle.root_file.proofs.KeepLaws.{nothing, takes-none, takes-some}
 use Rattle.root_file.proofs.TableLaws.{filled}
 use Rattle.root_file.proofs.table_at.Statement.{statement}
 use Rattle.root_file.proofs.table_at.Tie as tie
 
 abbrev Inv-loop : tie.InvT-loop
-Inv-loop s at keys₀ n₀ m₀ keys n m = (n ≤ 16) × (length keys ≡ 16) × ((v : Json) → Stands s at v → MembersWalk key 1 16 s m n (front viewKey noKey keys n) (eachMember 1 16 key v))
+Inv-loop s at keys₀ n₀ m₀ keys n m = (n ≤ maxKeys) × (length keys ≡ maxKeys) × ((v : Json) → Stands s at v → MembersWalk key 1 maxKeys s m n (front viewKey noKey keys n) (eachMember 1 maxKeys key v))
 
 abbrev μ-loop : tie.MeasureT-loop
 μ-loop s at keys₀ n₀ m₀ keys n m = ahead s m
@@ -32,7 +34,7 @@ first-member-requires : tie.Need-first-member-requires Inv-loop μ-loop
 first-member-requires c κs = search needs
 
 loop-holds : tie.Need-loop-holds Inv-loop μ-loop
-loop-holds c = (omega arith, refl, λ v h. rw (front-none viewKey noKey) (members-first key 1 16 ((c .before .before .before .before) .args .s .now) (c .first-member .result) (c .first-member .ensures) v h))
+loop-holds c = (omega arith, refl, λ v h. rw (front-none viewKey noKey) (members-first key 1 maxKeys ((c .before .before .before .before) .args .s .now) (c .first-member .result) (c .first-member .ensures) v h))
 
 enum-known-m : tie.Need-enum-known-m Inv-loop μ-loop
 enum-known-m c = search needs
@@ -42,7 +44,10 @@ no-keys-requires c κs = search needs
 
 returns : tie.Need-returns Inv-loop μ-loop
 unfolding viewKeysAt
-returns c = let l = (c .before .before .before .before .before) .loop in λ v h. nothing _ (c .no-keys .ensures) (members-full key 1 16 ((c .before .before .before .before .before .before .before .before .before .before) .args .s .now) (l .m) (l .n) (front viewKey noKey (l .keys) (l .n)) (eachMember 1 16 key v) (l .inv .2 v h) _ _ ((c .before .before .before) .m .given .1) ((c .before) .if1 .taken))
+returns c =
+    let s = (c .before .before .before .before .before .before .before .before .before .before) .args .s .now in
+    let l = (c .before .before .before .before .before) .loop in
+    λ v h. nothing _ (c .no-keys .ensures) (members-full key 1 maxKeys s (l .m) (l .n) (front viewKey noKey (l .keys) (l .n)) _ (l .inv .2 v h) _ _ ((c .before .before .before) .m .given .1) ((c .before) .if1 .taken))
 
 key-at-requires : tie.Need-key-at-requires Inv-loop μ-loop
 key-at-requires c κs = search needs
@@ -52,7 +57,10 @@ no-keys-requires-2 c κs = search needs
 
 returns-2 : tie.Need-returns-2 Inv-loop μ-loop
 unfolding viewKeysAt viewKeyAt
-returns-2 c = let l = (c .before .before .before .before .before .before .before .before) .loop in λ v h. nothing _ (c .no-keys2 .ensures) (members-broken key 1 16 ((c .before .before .before .before .before .before .before .before .before .before .before .before .before) .args .s .now) (l .m) (l .n) (front viewKey noKey (l .keys) (l .n)) (eachMember 1 16 key v) (l .inv .2 v h) _ _ ((c .before .before .before .before .before .before) .m .given .1) (takes-none _ _ _ _ ((c .before .before .before) .key-at .ensures) (not-true _ ((c .before) .if2 .taken))))
+returns-2 c =
+    let s = (c .before .before .before .before .before .before .before .before .before .before .before .before .before) .args .s .now in
+    let l = (c .before .before .before .before .before .before .before .before) .loop in
+    λ v h. nothing _ (c .no-keys2 .ensures) (members-broken key 1 maxKeys s (l .m) (l .n) (front viewKey noKey (l .keys) (l .n)) _ (l .inv .2 v h) _ _ ((c .before .before .before .before .before .before) .m .given .1) (takes-none _ _ _ _ ((c .before .before .before) .key-at .ensures) (not-true _ ((c .before) .if2 .taken))))
 
 mul-keys : tie.Need-mul-keys Inv-loop μ-loop
 mul-keys c = omega arith
@@ -67,11 +75,17 @@ next-member-requires : tie.Need-next-member-requires Inv-loop μ-loop
 next-member-requires c κs = search needs
 
 loop-less : tie.Need-loop-less Inv-loop μ-loop
-loop-less c = let l = (c .before .before .before .before .before .before .before .before .before) .loop in ahead-less ((c .before .before .before .before .before .before .before .before .before .before .before .before .before .before) .args .s .now) (l .m) _ _ ((c .before .before .before .before .before .before .before) .m .given .1) (c .next-member .result) (c .next-member .ensures .onward)
+loop-less c =
+    let s = (c .before .before .before .before .before .before .before .before .before .before .before .before .before .before) .args .s .now in
+    let l = (c .before .before .before .before .before .before .before .before .before) .loop in
+    ahead-less s (l .m) _ _ ((c .before .before .before .before .before .before .before) .m .given .1) (c .next-member .result) (c .next-member .ensures .onward)
 
 loop-again : tie.Need-loop-again Inv-loop μ-loop
 unfolding viewKeyAt
-loop-again c = let l = (c .before .before .before .before .before .before .before .before .before) .loop in (omega arith, simp length-set (omega arith), λ v h. rw (front-more viewKey noKey (l .keys) (l .n) ((c .before .before .before .before) .key-at .result .key) (omega arith)) (members-next key 1 16 ((c .before .before .before .before .before .before .before .before .before .before .before .before .before .before) .args .s .now) (l .m) (l .n) (front viewKey noKey (l .keys) (l .n)) (eachMember 1 16 key v) (l .inv .2 v h) _ _ ((c .before .before .before .before .before .before .before) .m .given .1) _ (takes-some _ _ _ _ ((c .before .before .before .before) .key-at .ensures) (not-false _ ((c .before .before) .if2 .left))) (c .next-member .result) (c .next-member .ensures)))
+loop-again c =
+    let s = (c .before .before .before .before .before .before .before .before .before .before .before .before .before .before) .args .s .now in
+    let l = (c .before .before .before .before .before .before .before .before .before) .loop in
+    (omega arith, simp length-set (omega arith), λ v h. rw (front-more viewKey noKey (l .keys) (l .n) ((c .before .before .before .before) .key-at .result .key) (omega arith)) (members-next key 1 maxKeys s (l .m) (l .n) (front viewKey noKey (l .keys) (l .n)) _ (l .inv .2 v h) _ _ ((c .before .before .before .before .before .before .before) .m .given .1) _ (takes-some _ _ _ _ ((c .before .before .before .before) .key-at .ensures) (not-false _ ((c .before .before) .if2 .left))) (c .next-member .result) (c .next-member .ensures)))
 
 enum-told : tie.Need-enum-told Inv-loop μ-loop
 enum-told c = search needs
@@ -81,7 +95,10 @@ no-keys-requires-3 c κs = search needs
 
 returns-3 : tie.Need-returns-3 Inv-loop μ-loop
 unfolding viewKeysAt
-returns-3 c = let l = (c .before .before .before) .loop in λ v h. nothing _ (c .no-keys3 .ensures) (members-none key 1 16 ((c .before .before .before .before .before .before .before .before) .args .s .now) (l .m) (l .n) (front viewKey noKey (l .keys) (l .n)) (eachMember 1 16 key v) (l .inv .2 v h) ((c .before) .enum-told .given .1))
+returns-3 c =
+    let s = (c .before .before .before .before .before .before .before .before) .args .s .now in
+    let l = (c .before .before .before) .loop in
+    λ v h. nothing _ (c .no-keys3 .ensures) (members-none key 1 maxKeys s (l .m) (l .n) (front viewKey noKey (l .keys) (l .n)) _ (l .inv .2 v h) ((c .before) .enum-told .given .1))
 
 enum-told-2 : tie.Need-enum-told-2 Inv-loop μ-loop
 enum-told-2 c = search needs
@@ -91,11 +108,17 @@ no-keys-requires-4 c κs = search needs
 
 returns-4 : tie.Need-returns-4 Inv-loop μ-loop
 unfolding viewKeysAt
-returns-4 c = let l = (c .before .before .before .before) .loop in λ v h. nothing _ (c .no-keys4 .ensures) (members-few key 1 16 ((c .before .before .before .before .before .before .before .before .before) .args .s .now) (l .m) (l .n) (front viewKey noKey (l .keys) (l .n)) (eachMember 1 16 key v) (l .inv .2 v h) ((c .before .before) .enum-told2 .given .1) ((c .before) .if3 .taken))
+returns-4 c =
+    let s = (c .before .before .before .before .before .before .before .before .before) .args .s .now in
+    let l = (c .before .before .before .before) .loop in
+    λ v h. nothing _ (c .no-keys4 .ensures) (members-few key 1 maxKeys s (l .m) (l .n) (front viewKey noKey (l .keys) (l .n)) _ (l .inv .2 v h) ((c .before .before) .enum-told2 .given .1) ((c .before) .if3 .taken))
 
 returns-5 : tie.Need-returns-5 Inv-loop μ-loop
 unfolding viewKeysAt
-returns-5 c = let l = (c .before .before .before) .loop in λ v h. whole _ refl ∙ rw (filled (l .keys) (l .n) (l .inv .0)) (members-over key 1 16 ((c .before .before .before .before .before .before .before .before) .args .s .now) (l .m) (l .n) (front viewKey noKey (l .keys) (l .n)) (eachMember 1 16 key v) (l .inv .2 v h) ((c .before) .enum-told2 .given .1) (c .if3 .left) (l .inv .0))
+returns-5 c =
+    let s = (c .before .before .before .before .before .before .before .before) .args .s .now in
+    let l = (c .before .before .before) .loop in
+    λ v h. held _ _ refl ∙ rw (filled (l .keys) (l .n) (l .inv .0)) (members-over key 1 maxKeys s (l .m) (l .n) (front viewKey noKey (l .keys) (l .n)) _ (l .inv .2 v h) ((c .before) .enum-told2 .given .1) (c .if3 .left) (l .inv .0))
 
 pub table-at-spec : {M : Type 1} → statement M
 table-at-spec =
