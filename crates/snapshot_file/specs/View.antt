@@ -1,0 +1,26 @@
+-- What the answers stand for.
+use mathlib.Core.Option.{Option}
+use mathlib.Core.List.{List}
+use Rattle.base.specs.Bytes.{Bytes}
+use Rattle.json.specs.Fields.{keep}
+use Rattle.rules.specs.Records as rules
+use Rattle.rules.specs.Records.{Read}
+use Rattle.rules.specs.State as state
+use Rattle.records.specs.View.{viewName, viewNamed, viewNames, viewSnapshot, viewEntries}
+use Rattle.envelope.specs.Open.{viewRead}
+use Rattle.snapshot_file.specs.declared.NameAt.{NameAt}
+use Rattle.snapshot_file.specs.declared.NamedAt.{NamedAt}
+use Rattle.snapshot_file.specs.declared.NamesAt.{NamesAt}
+use Rattle.snapshot_file.specs.declared.SnapshotRead.{SnapshotRead}
+
+unfoldable pub viewNameAt : NameAt → Option Bytes
+viewNameAt r = keep (r .ok) (viewName (r .name))
+
+unfoldable pub viewNamedAt : NamedAt → Option rules.Named
+viewNamedAt r = keep (r .ok) (viewNamed (r .named))
+
+unfoldable pub viewNamesAt : NamesAt → Option (List rules.Named)
+viewNamesAt r = keep (r .ok) (viewNames (r .names))
+
+unfoldable pub viewSnapshotRead : SnapshotRead → Read state.Snapshot
+viewSnapshotRead r = viewRead (r .answer) (viewSnapshot (r .snapshot)) (viewEntries (r .entries))

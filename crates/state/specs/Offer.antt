@@ -1,0 +1,19 @@
+-- What judging looks at in an offered file: not its bytes, but its length, its digest and the row of verdicts.
+use mathlib.Core.Path.{_≡_}
+use Prim.Native.Nat.{ℕ}
+use mathlib.Core.List.{List}
+use lib.IntN.{ℤ}
+use lib.ListN.{length}
+use Rattle.base.specs.Bytes.{Bytes}
+use Rattle.rules.specs.Records.{File, Image}
+use Rattle.rules.specs.State.{Row, FileOffer}
+
+pub record Measured (o : FileOffer) (row : Row) (size : ℕ) (digest : Bytes) : Type 0 where
+  pub row-is : o .row ≡ row
+  pub size-is : length (o .file) ≡ size
+  pub digest-is : o .digest ≡ digest
+
+-- what judging looks at in a targets file
+pub record Dated (f : File (List Image)) (version : ℕ) (expires : ℤ) : Type 0 where
+  pub version-is : f .version ≡ version
+  pub expires-is : f .expires ≡ expires
