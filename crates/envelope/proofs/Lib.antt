@@ -1,5 +1,5 @@
 pub mod EntryLaws
 pub mod HeaderLaws
-pub mod LocateLaws
+pub mod ObjectLaws
 pub mod OpenLaws
 pub mod RoleLaws

@@ -9,15 +9,15 @@ use lib.ListN.{length}
 use borrow.Author.Tests.{le-leb, lt-leb}
 use Rattle.base.specs.Bytes.{Bytes, bytes}
 use Rattle.json.specs.Json.{Json, Members, put, Canonical, maxDepth}
-use Rattle.json.specs.Fields.{members, lookup, field, keep}
-use Rattle.lookup.specs.Place.{Stands, PlaceOf, Takes, EndsAt}
+use Rattle.json.specs.Fields.{members, lookup, field, keep, placeOf}
+use Rattle.lookup.specs.Place.{Stands, PlaceOf, Takes, EndsAt, viewFound, FindsMember}
 use Rattle.lookup.specs.declared.Found.{Found}
 use Rattle.lookup.specs.declared.Found.the-variants.{Nothing, At}
 use Rattle.lookup.proofs.StandsLaws.{end-found, end-is}
 use Rattle.rules.specs.Limits.{maxFile}
 use Rattle.rules.specs.Take.{_>>=_, must}
 use Rattle.rules.specs.Records.{Entry}
-use Rattle.rules.specs.Forms.{Envelope, entries, envelope, placeOf}
+use Rattle.rules.specs.Forms.{Envelope, entries, envelope}
 use Rattle.rules.specs.Reading.{parsed, judgedText, readWith, keyidsOf, opened, readEnvelope}
 use Rattle.rules.specs.Steps.{faultNumber}
 use Rattle.rules.proofs.OptionLaws.{none-not-some, some-is}
@@ -25,9 +25,9 @@ use Rattle.rules.proofs.ReadingLaws.{parsed-exactly}
 use Rattle.records.specs.View.{viewEntries}
 use Rattle.forms.proofs.StepLaws.{stop}
 use Rattle.envelope.specs.Header.{keyids}
-use Rattle.envelope.specs.Open.{viewFound, Locates, object, IsShut, Opens}
+use Rattle.envelope.specs.Open.{object, IsShut, Opens}
 use Rattle.envelope.specs.declared.Opened.{Opened}
-use Rattle.envelope.proofs.LocateLaws.{value-length}
+use Rattle.lookup.proofs.PlacedLaws.{value-length}
 
 -- ## The envelope's steps
 
@@ -146,17 +146,17 @@ module _ (file : Bytes) (r : Opened) where
         pub opens-unsigned : ok ≡ false → IsShut r 3 → Opens file r (readEnvelope file)
         opens-unsigned q x = broken (no-keyids (c .0) ok ks (t (c .0) here) q) x
 
-        module _ (f : Found) (w : (v : Json) → Stands file 0 v → Locates file (bytes "signed") v f) where
+        module _ (f : Found) (w : FindsMember file 0 (bytes "signed") f) where
           pub opens-nothing : f ≡ Nothing → IsShut r 3 → Opens file r (readEnvelope file)
-          opens-nothing q x = broken (no-signed (c .0) (rw q at (w (c .0) here .value))) x
+          opens-nothing q x = broken (no-signed (c .0) (rw q at (w .means (c .0) here))) x
 
           module _ (start : ℕ) (q : f ≡ At start) where
             signed : PlaceOf file (At start) (field (bytes "signed") (c .0))
-            signed = rw q at (w (c .0) here .value)
+            signed = rw q at (w .means (c .0) here)
 
             place : some start ≡ (members (c .0) >>= placeOf (bytes "signed"))
-            unfolding viewFound
-            place = rw q at (w (c .0) here .place)
+            unfolding viewFound placeOf
+            place = rw q at (w .place (c .0) here)
 
             module _ (is : Bool) (o : Takes file start object (keep is tt)) where
               pub opens-scalar : is ≡ false → IsShut r 3 → Opens file r (readEnvelope file)

@@ -7,29 +7,17 @@ use Prim.Native.Nat.{ℕ}
 use lib.Dec.{eqb}
 use Rattle.base.specs.Bytes.{Bytes}
 use Rattle.json.specs.Json.{Json}
-use Rattle.json.specs.Fields.{members, field}
-use Rattle.lookup.specs.Place.{Stands, PlaceOf}
-use Rattle.lookup.specs.declared.Found.{Found}
-use Rattle.lookup.specs.declared.Found.the-variants.{Nothing, At}
+use Rattle.json.specs.Fields.{members}
+use Rattle.lookup.specs.Place.{Stands}
 use Rattle.rules.specs.Take.{_>>=_}
 use Rattle.rules.specs.Records.{Fault, tooLong, notText, badForm, otherSpec, Read, refused, says}
-use Rattle.rules.specs.Forms.{Envelope, placeOf}
+use Rattle.rules.specs.Forms.{Envelope}
 use Rattle.rules.specs.Reading.{keyidsOf}
 use Rattle.rules.specs.Steps.{faultNumber}
 use Rattle.records.specs.View.{viewEntries}
 use Rattle.envelope.specs.Header.{Header, header}
 use Rattle.envelope.specs.declared.Opened.{Opened}
 use Rattle.envelope.specs.declared.RoleFile.{RoleFile}
-
--- ## A member of the file's object, by its exact place
-
-unfoldable pub viewFound : Found → Option ℕ
-viewFound Nothing = none
-viewFound (At x) = some x
-
-pub record Locates (s k : Bytes) (v : Json) (r : Found) : Type 0 where
-  pub value : PlaceOf s r (field k v)
-  pub place : viewFound r ≡ (members v >>= placeOf k)
 
 -- ## The envelope
 

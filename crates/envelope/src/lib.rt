@@ -3,15 +3,14 @@ ghost use mathlib.Core.Path.{_≡_};
 ghost use mathlib.Core.Option.{none};
 ghost use lib.ListN.{drop, take};
 ghost use Rattle.base.specs.Bytes.{bytes, same};
-ghost use Rattle.json.specs.Json.{Json};
 ghost use Rattle.json.specs.Read.{raw};
 ghost use Rattle.json.specs.Fields.{keep};
-ghost use Rattle.lookup.specs.Place.{Stands, Takes};
+ghost use Rattle.lookup.specs.Place.{Takes};
 ghost use Rattle.rules.specs.Take.{must};
 ghost use Rattle.rules.specs.Forms.{entry, knownSpec};
 ghost use Rattle.rules.specs.Reading.{readEnvelope};
 ghost use Rattle.envelope.specs.Header.{keyids, viewEntry, viewEntriesAt, specKnown, header, viewSpec, viewHeader};
-ghost use Rattle.envelope.specs.Open.{Locates, object, Opens, IsShut, headedBy, Heads};
+ghost use Rattle.envelope.specs.Open.{object, Opens, IsShut, headedBy, Heads};
 use date::Date;
 use date::Time;
 use json::Char;
@@ -264,29 +263,6 @@ pub fn header_at(s: &[u8], at: usize, kind: &[u8]) -> HeaderAt
 
 // ---- The envelope
 
-// Where the value of the member of that name begins, in the file's object.
-fn locate(file: &[u8], name: &[u8]) -> Found
-    ensures { λ r. ⌜ ((v : Json) → Stands (now (file .entry)) 0 v → Locates (now (file .entry)) (now (name .entry)) v r) ⌝ }
-{
-    let mut m = lookup::first_member(file, 0);
-    loop {
-        match m {
-            Member::At { name: n, value: v } => {
-                if lookup::text_is(file, n, name) {
-                    return Found::At(v);
-                }
-                m = lookup::next_member(file, v);
-            }
-            Member::NoObject => {
-                return Found::Nothing;
-            }
-            Member::End => {
-                return Found::Nothing;
-            }
-        }
-    }
-}
-
 fn is_object(s: &[u8], at: usize) -> bool
     ensures { λ r. ⌜ Takes (now (s .entry)) at object (keep r tt) ⌝ }
 {
@@ -336,7 +312,7 @@ pub fn open_envelope(file: &[u8]) -> Opened
     if !read.ok {
         return shut(BAD_FORM);
     }
-    match locate(file, b"signed") {
+    match lookup::find_member(file, 0, b"signed") {
         Found::Nothing => {
             return shut(BAD_FORM);
         }

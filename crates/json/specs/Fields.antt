@@ -5,7 +5,8 @@ use mathlib.Core.Bool.{Bool, true, false, cond, _&&_}
 use Prim.Native.Nat.{ℕ, suc, _+_, _-_, _*_}
 use lib.Dec.{leb}
 use Rattle.base.specs.Bytes.{Bytes, same}
-use Rattle.json.specs.Json.{Json, jnull, jtrue, jfalse, num, str, arr, obj, Items, inil, icons, Members, mnil, mcons}
+use Rattle.json.specs.Json.{Json, jnull, jtrue, jfalse, num, str, arr, obj, Items, inil, icons, Members, mnil, mcons, put, putStr}
+use lib.ListN.{length}
 
 -- ## What a value is
 
@@ -83,6 +84,18 @@ lookup k (mcons n v ms) = cond (same n k) (some v) (lookup k ms)
 -- the same of a value: none where it is no object
 unfoldable pub field : Bytes → Json → Option Json
 field k v = bind (members v) (lookup k)
+
+-- ## Places in the text of an object
+
+-- where the value of the member named k begins, in an object's text whose next member begins at place p
+unfoldable pub placeFrom : ℕ → Bytes → Members → Option ℕ
+placeFrom p k mnil = none
+placeFrom p k (mcons n v ms) =
+    cond (same n k) (some (p + length (putStr n []) + 1)) (placeFrom (p + length (putStr n []) + 1 + length (put v []) + 1) k ms)
+
+-- the first member begins after the brace
+unfoldable pub placeOf : Bytes → Members → Option ℕ
+placeOf k ms = placeFrom 1 k ms
 
 -- ## Numbers within limits
 

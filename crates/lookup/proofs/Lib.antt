@@ -3,6 +3,7 @@ pub mod StandsLaws
 pub mod ItemLaws
 pub mod MemberLaws
 pub mod LookupLaws
+pub mod PlacedLaws
 pub mod StringLaws
 pub mod NumberLaws
 pub mod TruthLaws

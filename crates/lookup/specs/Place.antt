@@ -1,11 +1,12 @@
 -- A value at a place of a text, and what a place that is handed back says.
 use mathlib.Core.Path.{_≡_}
-use mathlib.Core.Option.{Option, none, some}
-use Prim.Native.Nat.{ℕ, _-_, _<_, _≤_}
+use mathlib.Core.Option.{Option, none, some, bind}
+use Prim.Native.Nat.{ℕ, _+_, _-_, _<_, _≤_}
 use lib.ListN.{length, drop}
 use Rattle.base.specs.Bytes.{Bytes}
 use Rattle.json.specs.Json.{Json, put, Valid, maxDepth}
 use Rattle.json.specs.Read.{NoDigit}
+use Rattle.json.specs.Fields.{members, field, placeFrom}
 use Rattle.lookup.specs.declared.Found.{Found}
 use Rattle.lookup.specs.declared.Found.the-variants.{Nothing, At}
 
@@ -24,6 +25,16 @@ PlaceOf s (At x) o = (w : Json) × (o ≡ some w) × Stands s x w
 -- What a function promises that looks for something in the value at p. Where no value stands there the answer is the program's choice.
 abbrev pub Finds : Bytes → ℕ → (Json → Option Json) → Found → Type 0
 Finds s p f r = (v : Json) → Stands s p v → PlaceOf s r (f v)
+
+-- the place that was found
+unfoldable pub viewFound : Found → Option ℕ
+viewFound Nothing = none
+viewFound (At x) = some x
+
+-- What the search for a member promises: the member's value stands at the place, and it is that member's own place. (An equal value may stand elsewhere too.)
+pub record FindsMember (s : Bytes) (p : ℕ) (k : Bytes) (r : Found) : Type 0 where
+  pub means : Finds s p (field k) r
+  pub place : (v : Json) → Stands s p v → viewFound r ≡ bind (members v) (placeFrom (p + 1) k)
 
 -- the same of one that takes something out of it
 abbrev pub Takes : {A : Type 0} → Bytes → ℕ → (Json → Option A) → Option A → Type 0

@@ -4,8 +4,7 @@ ghost use mathlib.Core.Path.{_≡_};
 ghost use lib.ListN.{length, drop};
 ghost use Rattle.base.specs.Bytes.{same};
 ghost use Rattle.json.specs.Read.{raw};
-ghost use Rattle.json.specs.Fields.{field};
-ghost use Rattle.lookup.specs.Place.{EndsAt, Finds};
+ghost use Rattle.lookup.specs.Place.{EndsAt, FindsMember};
 ghost use Rattle.lookup.specs.Walk.{Opens, Follows, FirstElement, NextElement, MemberAt, FirstMember, NextMember};
 ghost use Rattle.lookup.specs.Leaves.{stringIn, Copies, leadingTo, numberIn, viewNumber, truthIn, viewTruth};
 use json::Char;
@@ -160,7 +159,7 @@ pub fn next_member(s: &[u8], value: usize) -> Member
 
 // The value of the member of that name, in the object at `at`.
 pub fn find_member(s: &[u8], at: usize, name: &[u8]) -> Found
-    ensures { λ r. ⌜ Finds (now (s .entry)) at (field (now (name .entry))) r ⌝ }
+    ensures { λ r. ⌜ FindsMember (now (s .entry)) at (now (name .entry)) r ⌝ }
 {
     let mut m = first_member(s, at);
     loop {

@@ -8,9 +8,9 @@ use Rattle.json.specs.Json.{put, putBytes}
 use Rattle.json.specs.Read as reader
 use Rattle.json.specs.Read.{read, kindOf, chars, digits, loop, body, member}
 use Rattle.json.specs.Fields as fields
-use Rattle.json.specs.Fields.{members, items, lookup, field, size, text, truth, keep, decimal, natural, between, number}
+use Rattle.json.specs.Fields.{members, items, lookup, field, size, text, truth, keep, decimal, natural, between, number, placeFrom, placeOf}
 use Rattle.rules.specs.Take.{must, inside, may, single, sole, each, eachNamed, word, unhex, hex, date, nameOf}
-use Rattle.rules.specs.Forms.{isIn, different, entry, entries, placeFrom, placeOf, envelope, version, knownSpec, fileOf, key, keys, role, root, sha256, listed, timestamp, named, names, snapshot, image, images, targets}
+use Rattle.rules.specs.Forms.{isIn, different, entry, entries, envelope, version, knownSpec, fileOf, key, keys, role, root, sha256, listed, timestamp, named, names, snapshot, image, images, targets}
 use Rattle.rules.specs.Reading.{whole, parsed, judgedText, readWith, keyidsOf, opened, readEnvelope, known, spoken, inEnvelope, readAs, readRoot, readTimestamp, readSnapshot, readTargets}
 use Rattle.rules.specs.State.{blank, filter, keepRole, keepRoot, keepTimestamp, keepSnapshot, keepTargets, kept, rootIn, timestampIn, snapshotIn, targetsIn}
 use Rattle.rules.specs.Table.{first}

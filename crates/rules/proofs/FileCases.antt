@@ -5,8 +5,6 @@ use Prim.Native.Nat.{ℕ}
 use Prim.Native.String.{String}
 use lib.IntN.{pos}
 use Rattle.base.specs.Bytes.{Bytes, bytes}
-use Rattle.json.specs.Read as reader
-use Rattle.json.specs.Fields as fields
 use Rattle.rules.specs.Forms.{entries}
 use Rattle.rules.specs.State.{Row}
 use Rattle.rules.specs.Steps.{installAnswer}

@@ -14,7 +14,7 @@ use lib.Seq.{take-at, drop-at}
 use Rattle.base.specs.Bytes.{Bytes, bytes, same}
 use Rattle.json.specs.Json.{Json, jnull, jtrue, jfalse, num, str, arr, obj, Members, mnil, mcons, put, putMembers, putMoreMembers, putStr, Valid, Canonical, maxDepth}
 use Rattle.json.specs.Read.{Got, bad, got, read}
-use Rattle.json.specs.Fields.{members, lookup}
+use Rattle.json.specs.Fields.{members, lookup, placeFrom, placeOf}
 use Rattle.json.proofs.Says.{says-of}
 use Rattle.json.proofs.Sound.{read-sound, Wrote}
 use Rattle.json.proofs.Complete.{complete}
@@ -23,7 +23,7 @@ use Rattle.json.proofs.Slices.{put-split}
 use Rattle.rules.specs.Limits.{maxFile}
 use Rattle.base.proofs.TestLaws.{never}
 use Rattle.rules.specs.Records.{File, Fault, Read, refused, says, tooLong, otherSpec}
-use Rattle.rules.specs.Forms.{Envelope, envelope, entries, placeFrom, placeOf, knownSpec, fileOf}
+use Rattle.rules.specs.Forms.{Envelope, envelope, entries, knownSpec, fileOf}
 use Rattle.rules.specs.State.{kept}
 use Rattle.rules.specs.Table.{Refusal, absent}
 use Rattle.rules.specs.Reading.{whole, parsed, judgedText, readWith, keyidsOf, opened, readEnvelope, known, spoken, inEnvelope, readAs}

@@ -7,8 +7,6 @@ use Prim.Native.String.{String}
 use lib.IntN.{ℤ, pos}
 use Rattle.base.specs.Bytes.{Bytes, bytes}
 use Rattle.base.specs.Hex.{undo}
-use Rattle.json.specs.Read as reader
-use Rattle.json.specs.Fields as fields
 use Rattle.rules.specs.Forms.{listed, timestamp, names, snapshot, targets, version, keys, root}
 use Rattle.rules.specs.State.{blank, State, Call, Install, Root, Timestamp, Snapshot, Targets, Query, newCycle, newRoot, newTimestamp, newSnapshot, newTargets, find, askKey}
 use Rattle.rules.specs.Records.{Role}

@@ -1,18 +1,18 @@
 -- What the calls give besides an answer and a state: find, key, image, look, entry (01, "Text" and "Steps"). A refusal gives zeros.
 use mathlib.Core.Option.{Option, none, some}
-use mathlib.Core.Bool.{Bool, true, false, cond, not}
+use mathlib.Core.Bool.{cond, not}
 use mathlib.Core.List.{List, [], _∷_}
 use Prim.Native.Nat.{ℕ, zero, suc}
 use lib.Dec.{eqb}
 use lib.ListN.{length, replicate}
 use Rattle.base.specs.Bytes.{Bytes, same}
-use Rattle.base.specs.Hex.{isHex, undo}
+use Rattle.base.specs.Hex.{undo}
 use Rattle.rules.specs.Limits.{digestSize, keySize, signatureSize}
 use Rattle.rules.specs.Records.{Key, Image, File, Entry, Read, refused, says}
 use Rattle.rules.specs.Forms.{Envelope}
 use Rattle.rules.specs.Reading.{readEnvelope}
-use Rattle.rules.specs.State.{Root, State, targetsIn, Query, Call, find, askKey}
-use Rattle.rules.specs.Table.{Refusal, _when_, first, absent}
+use Rattle.rules.specs.State.{Root, State, targetsIn, Query, find, askKey}
+use Rattle.rules.specs.Table.{Refusal, _when_, first}
 use Rattle.rules.specs.Conditions.{badDigest, imageOf, keyOf}
 use Rattle.rules.specs.Steps.{faultNumber, answer, refuses}
 

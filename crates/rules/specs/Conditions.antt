@@ -3,15 +3,13 @@ use mathlib.Core.Option.{Option, none, some}
 use mathlib.Core.Bool.{Bool, true, false, cond, not, _&&_, _||_}
 use mathlib.Core.List.{List, [], _∷_}
 use Prim.Native.Nat.{ℕ}
-use lib.Dec.{leb, ltb, eqb}
-use lib.IntN.{ℤ}
+use lib.Dec.{ltb, eqb}
 use lib.ListN.{length}
 use Rattle.base.specs.Bytes.{Bytes, bytes, same}
-use Rattle.date.specs.Calendar.{expired}
 use Rattle.rules.specs.Limits.{digestSize}
 use Rattle.rules.specs.Records.{Key, Role, Listed, Named, Image}
 use Rattle.rules.specs.Forms.{isIn, allOf}
-use Rattle.rules.specs.State.{Root, Timestamp, Snapshot, Targets, State, Row, filter}
+use Rattle.rules.specs.State.{Root, Snapshot, State, Row, filter}
 use Rattle.rules.specs.Table.{ofHeld}
 
 abbrev pub any : {A : Type 0} → (A → Bool) → List A → Bool

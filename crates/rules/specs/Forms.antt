@@ -1,14 +1,14 @@
 -- The forms of 01 ("Forms"), in its order: what a JSON value of each form says; nothing where the form is broken. Members that no form
 -- names are passed over.
-use mathlib.Core.Option.{Option, none, some}
+use mathlib.Core.Option.{Option, some}
 use mathlib.Core.List.{List, [], _∷_, map}
-use mathlib.Core.Bool.{Bool, true, false, cond, not, _&&_, _||_}
-use Prim.Native.Nat.{ℕ, _+_}
+use mathlib.Core.Bool.{Bool, true, false, not, _&&_, _||_}
+use Prim.Native.Nat.{ℕ}
 use lib.Dec.{leb}
 use lib.ListN.{length, take}
 use Rattle.base.specs.Bytes.{Bytes, bytes, same}
-use Rattle.json.specs.Json.{Json, Items, Members, put, putStr, mnil, mcons}
-use Rattle.json.specs.Fields.{items, members, text, truth, number, lookup, field, keep, size, count}
+use Rattle.json.specs.Json.{Json, put}
+use Rattle.json.specs.Fields.{items, members, text, truth, number, lookup, field, keep, size, count, placeOf}
 use Rattle.rules.specs.Limits.{maxEntries, maxVersion, maxKeys, maxKeyids, maxNames, maxName, maxLength, maxTargets, maxPath, digestSize, keySize, signatureSize}
 use Rattle.rules.specs.Take.{_>>=_, must, may, sole, each, eachNamed, word, unhex, hex, date, nameOf}
 use Rattle.rules.specs.Records.{Key, Role, Root, Listed, Named, Image, File, Entry}
@@ -37,16 +37,6 @@ entry v =
 
 unfoldable pub entries : Json → Option (List Entry)
 entries v = items v >>= λ xs. keep (leb (size xs) maxEntries) xs >>= each entry
-
--- where the value of the member named k begins, in an object's text whose next member begins at place p
-unfoldable pub placeFrom : ℕ → Bytes → Members → Option ℕ
-placeFrom p k mnil = none
-placeFrom p k (mcons n v ms) =
-    cond (same n k) (some (p + length (putStr n []) + 1)) (placeFrom (p + length (putStr n []) + 1 + length (put v []) + 1) k ms)
-
--- the first member begins after the brace
-unfoldable pub placeOf : Bytes → Members → Option ℕ
-placeOf k ms = placeFrom 1 k ms
 
 -- "signed", an object: a part of the file, by its place and length
 pub record Envelope : Type 0 where

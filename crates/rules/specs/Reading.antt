@@ -1,16 +1,14 @@
 -- Reading a file (01, refusals 1 to 4): from its bytes to what it says. 3 is said before 4 whatever the order of its members.
 use mathlib.Core.Option.{Option, none, some}
 use mathlib.Core.List.{List, [], _∷_, map}
-use mathlib.Core.Bool.{Bool, true, false, cond}
-use Prim.Native.Nat.{ℕ}
+use mathlib.Core.Bool.{cond}
 use lib.Dec.{leb}
 use lib.ListN.{length}
 use Rattle.base.specs.Bytes.{Bytes, bytes}
 use Rattle.json.specs.Json.{Json, maxDepth}
 use Rattle.json.specs.Read.{Got, bad, got, read}
 use Rattle.rules.specs.Limits.{maxFile}
-use Rattle.rules.specs.Take.{_>>=_}
-use Rattle.rules.specs.Records.{Root, Listed, Named, Image, File, Entry, Fault, tooLong, notText, badForm, otherSpec, Read, refused, says}
+use Rattle.rules.specs.Records.{Root, Listed, Named, Image, File, Entry, tooLong, notText, badForm, otherSpec, Read, refused, says}
 use Rattle.rules.specs.Forms.{Envelope, envelope, knownSpec, fileOf, root, timestamp, snapshot, targets}
 
 -- ## Text

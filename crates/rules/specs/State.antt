@@ -1,6 +1,6 @@
 -- The trusted state: what the controller keeps of the files that became trusted (01, "Steps"), and the calls that are given it.
 use mathlib.Core.Option.{Option, none}
-use mathlib.Core.Bool.{Bool, true, false, cond}
+use mathlib.Core.Bool.{Bool, cond}
 use mathlib.Core.List.{List, [], _∷_, map}
 use Prim.Native.Nat.{ℕ}
 use lib.IntN.{ℤ, negsuc}

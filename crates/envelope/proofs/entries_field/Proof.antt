@@ -17,7 +17,7 @@ no-entries-requires : tie.Need-no-entries-requires
 no-entries-requires c κs = search needs
 
 returns : tie.Need-returns
-returns c = must-none _ _ _ (c .before .before .before .find-member .ensures) _ _ (c .before .enum-told .given .1) (c .no-entries .ensures)
+returns c = must-none _ _ _ (c .before .before .before .find-member .ensures .means) _ _ (c .before .enum-told .given .1) (c .no-entries .ensures)
 
 enum-known-x : tie.Need-enum-known-x
 enum-known-x c = search needs
@@ -26,7 +26,7 @@ entries-at-requires : tie.Need-entries-at-requires
 entries-at-requires c κs = search needs
 
 returns-2 : tie.Need-returns-2
-returns-2 c = must-at _ _ _ (c .before .before .before .before .find-member .ensures) _ _ _ (c .before .before .x .given .1) (c .entries-at .ensures)
+returns-2 c = must-at _ _ _ (c .before .before .before .before .find-member .ensures .means) _ _ _ (c .before .before .x .given .1) (c .entries-at .ensures)
 
 pub entries-field-spec : {M : Type 1} → statement M
 entries-field-spec =

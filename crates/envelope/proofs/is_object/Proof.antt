@@ -4,7 +4,7 @@ use mathlib.Core.Path.{_≡_, sym, _∙_}
 use Prim.Native.Nat.{ℕ}
 use native.Mathlib.Omega.{arith}
 use Rattle.json.specs.Fields.{keep}
-use Rattle.envelope.proofs.LocateLaws.{not-object, is-object}
+use Rattle.envelope.proofs.ObjectLaws.{not-object, is-object}
 use Rattle.envelope.proofs.is_object.Statement.{statement}
 use Rattle.envelope.proofs.is_object.Tie as tie
 

@@ -35,11 +35,11 @@ returns-3 : tie.Need-returns-3
 unfolding viewEntriesAt
 returns-3 c = opens-unsigned (c .before .before .before .before .before .before .before .before .args .file .now) (c .shut3 .result) (c .before .before .before .before .before .before .if1 .left) (c .before .before .before .before .before .is-canonical .ensures .0 (not-false _ (c .before .before .before .before .if2 .left))) _ _ (c .before .before .before .entries-field .ensures) (not-true _ (c .before .if3 .taken)) (c .shut3 .ensures)
 
-slice-aggregate-locate : tie.Need-slice-aggregate-locate
-slice-aggregate-locate c = search needs
+slice-aggregate-find-member : tie.Need-slice-aggregate-find-member
+slice-aggregate-find-member c = search needs
 
-locate-requires : tie.Need-locate-requires
-locate-requires c κs = search needs
+find-member-requires : tie.Need-find-member-requires
+find-member-requires c κs = search needs
 
 enum-told : tie.Need-enum-told
 enum-told c = search needs
@@ -49,7 +49,7 @@ shut-requires-4 c κs = search needs
 
 returns-4 : tie.Need-returns-4
 unfolding viewEntriesAt
-returns-4 c = opens-nothing (c .before .before .before .before .before .before .before .before .before .before .before .before .args .file .now) (c .shut4 .result) (c .before .before .before .before .before .before .before .before .before .before .if1 .left) (c .before .before .before .before .before .before .before .before .before .is-canonical .ensures .0 (not-false _ (c .before .before .before .before .before .before .before .before .if2 .left))) _ _ (c .before .before .before .before .before .before .before .entries-field .ensures) _ (c .before .before .before .locate .ensures) (c .before .enum-told .given .1) (c .shut4 .ensures)
+returns-4 c = opens-nothing (c .before .before .before .before .before .before .before .before .before .before .before .before .args .file .now) (c .shut4 .result) (c .before .before .before .before .before .before .before .before .before .before .if1 .left) (c .before .before .before .before .before .before .before .before .before .is-canonical .ensures .0 (not-false _ (c .before .before .before .before .before .before .before .before .if2 .left))) _ _ (c .before .before .before .before .before .before .before .entries-field .ensures) _ (c .before .before .before .find-member .ensures) (c .before .enum-told .given .1) (c .shut4 .ensures)
 
 enum-known-start : tie.Need-enum-known-start
 enum-known-start c = search needs
@@ -62,7 +62,7 @@ shut-requires-5 c κs = search needs
 
 returns-5 : tie.Need-returns-5
 unfolding viewEntriesAt
-returns-5 c = opens-scalar (c .before .before .before .before .before .before .before .before .before .before .before .before .before .before .before .args .file .now) (c .shut5 .result) (c .before .before .before .before .before .before .before .before .before .before .before .before .before .if1 .left) (c .before .before .before .before .before .before .before .before .before .before .before .before .is-canonical .ensures .0 (not-false _ (c .before .before .before .before .before .before .before .before .before .before .before .if2 .left))) _ _ (c .before .before .before .before .before .before .before .before .before .before .entries-field .ensures) _ (c .before .before .before .before .before .before .locate .ensures) _ (c .before .before .before .before .start .given .1) _ (c .before .before .is-object .ensures) (not-true _ (c .before .if4 .taken)) (c .shut5 .ensures)
+returns-5 c = opens-scalar (c .before .before .before .before .before .before .before .before .before .before .before .before .before .before .before .args .file .now) (c .shut5 .result) (c .before .before .before .before .before .before .before .before .before .before .before .before .before .if1 .left) (c .before .before .before .before .before .before .before .before .before .before .before .before .is-canonical .ensures .0 (not-false _ (c .before .before .before .before .before .before .before .before .before .before .before .if2 .left))) _ _ (c .before .before .before .before .before .before .before .before .before .before .entries-field .ensures) _ (c .before .before .before .before .before .before .find-member .ensures) _ (c .before .before .before .before .start .given .1) _ (c .before .before .is-object .ensures) (not-true _ (c .before .if4 .taken)) (c .shut5 .ensures)
 
 value-end-requires : tie.Need-value-end-requires
 value-end-requires c κs = search needs
@@ -75,7 +75,7 @@ shut-requires-6 c κs = search needs
 
 returns-6 : tie.Need-returns-6
 unfolding viewEntriesAt
-returns-6 c = opens-endless (c .before .before .before .before .before .before .before .before .before .before .before .before .before .before .before .before .before .before .args .file .now) (c .shut6 .result) (c .before .before .before .before .before .before .before .before .before .before .before .before .before .before .before .before .if1 .left) (c .before .before .before .before .before .before .before .before .before .before .before .before .before .before .before .is-canonical .ensures .0 (not-false _ (c .before .before .before .before .before .before .before .before .before .before .before .before .before .before .if2 .left))) _ _ (c .before .before .before .before .before .before .before .before .before .before .before .before .before .entries-field .ensures) _ (c .before .before .before .before .before .before .before .before .before .locate .ensures) _ (c .before .before .before .before .before .before .before .start .given .1) _ (c .before .before .before .before .before .is-object .ensures) _ (c .before .before .before .value-end .ensures) (c .before .enum-told2 .given .1)
+returns-6 c = opens-endless (c .before .before .before .before .before .before .before .before .before .before .before .before .before .before .before .before .before .before .args .file .now) (c .shut6 .result) (c .before .before .before .before .before .before .before .before .before .before .before .before .before .before .before .before .if1 .left) (c .before .before .before .before .before .before .before .before .before .before .before .before .before .before .before .is-canonical .ensures .0 (not-false _ (c .before .before .before .before .before .before .before .before .before .before .before .before .before .before .if2 .left))) _ _ (c .before .before .before .before .before .before .before .before .before .before .before .before .before .entries-field .ensures) _ (c .before .before .before .before .before .before .before .before .before .find-member .ensures) _ (c .before .before .before .before .before .before .before .start .given .1) _ (c .before .before .before .before .before .is-object .ensures) _ (c .before .before .before .value-end .ensures) (c .before .enum-told2 .given .1)
 
 enum-known-end : tie.Need-enum-known-end
 enum-known-end c = search needs
@@ -85,7 +85,7 @@ sub-t16 c = let p = place-after (c .before .before .before .before .before .befo
 
 returns-7 : tie.Need-returns-7
 unfolding viewEntriesAt
-returns-7 c = opens-all (c .before .before .before .before .before .before .before .before .before .before .before .before .before .before .before .before .before .before .before .args .file .now) _ (c .before .before .before .before .before .before .before .before .before .before .before .before .before .before .before .before .before .if1 .left) (c .before .before .before .before .before .before .before .before .before .before .before .before .before .before .before .before .is-canonical .ensures .0 (not-false _ (c .before .before .before .before .before .before .before .before .before .before .before .before .before .before .before .if2 .left))) _ _ (c .before .before .before .before .before .before .before .before .before .before .before .before .before .before .entries-field .ensures) _ (c .before .before .before .before .before .before .before .before .before .before .locate .ensures) _ (c .before .before .before .before .before .before .before .before .start .given .1) _ (c .before .before .before .before .before .before .is-object .ensures) _ (c .before .before .before .before .value-end .ensures) (not-false _ (c .before .before .before .before .before .before .before .before .before .before .before .before .if3 .left)) (not-false _ (c .before .before .before .before .before .if4 .left)) _ (c .before .before .end .given .1) refl refl refl refl
+returns-7 c = opens-all (c .before .before .before .before .before .before .before .before .before .before .before .before .before .before .before .before .before .before .before .args .file .now) _ (c .before .before .before .before .before .before .before .before .before .before .before .before .before .before .before .before .before .if1 .left) (c .before .before .before .before .before .before .before .before .before .before .before .before .before .before .before .before .is-canonical .ensures .0 (not-false _ (c .before .before .before .before .before .before .before .before .before .before .before .before .before .before .before .if2 .left))) _ _ (c .before .before .before .before .before .before .before .before .before .before .before .before .before .before .entries-field .ensures) _ (c .before .before .before .before .before .before .before .before .before .before .find-member .ensures) _ (c .before .before .before .before .before .before .before .before .start .given .1) _ (c .before .before .before .before .before .before .is-object .ensures) _ (c .before .before .before .before .value-end .ensures) (not-false _ (c .before .before .before .before .before .before .before .before .before .before .before .before .if3 .left)) (not-false _ (c .before .before .before .before .before .if4 .left)) _ (c .before .before .end .given .1) refl refl refl refl
 
 pub open-envelope-spec : {M : Type 1} → statement M
 open-envelope-spec =
@@ -99,8 +99,8 @@ open-envelope-spec =
     entries-field-requires
     shut-requires-3
     returns-3
-    slice-aggregate-locate
-    locate-requires
+    slice-aggregate-find-member
+    find-member-requires
     enum-told
     shut-requires-4
     returns-4

@@ -18,7 +18,7 @@ enum-told c = search needs
 
 returns : tie.Need-returns
 unfolding viewSpec keep
-returns c = must-none _ _ _ (c .before .before .find-member .ensures) _ _ (c .enum-told .given .1) refl
+returns c = must-none _ _ _ (c .before .before .find-member .ensures .means) _ _ (c .enum-told .given .1) refl
 
 enum-known-x : tie.Need-enum-known-x
 enum-known-x c = search needs
@@ -27,7 +27,7 @@ spec-at-requires : tie.Need-spec-at-requires
 spec-at-requires c κs = search needs
 
 returns-2 : tie.Need-returns-2
-returns-2 c = must-at _ _ _ (c .before .before .before .before .find-member .ensures) _ _ _ (c .before .before .x .given .1) (c .spec-at .ensures)
+returns-2 c = must-at _ _ _ (c .before .before .before .before .find-member .ensures .means) _ _ _ (c .before .before .x .given .1) (c .spec-at .ensures)
 
 pub spec-field-spec : {M : Type 1} → statement M
 spec-field-spec =

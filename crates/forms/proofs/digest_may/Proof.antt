@@ -20,7 +20,7 @@ enum-told c = search needs
 
 returns : tie.Need-returns
 unfolding viewMayId keep
-returns c = may-none _ _ _ (c .before .before .find-member .ensures) _ _ (c .enum-told .given .1) refl
+returns c = may-none _ _ _ (c .before .before .find-member .ensures .means) _ _ (c .enum-told .given .1) refl
 
 enum-known-x : tie.Need-enum-known-x
 enum-known-x c = search needs
@@ -33,7 +33,7 @@ id-field-requires c κs = search needs
 
 returns-2 : tie.Need-returns-2
 unfolding sha256
-returns-2 c = may-at _ _ _ (c .before .before .before .before .before .before .find-member .ensures) _ _ _ (c .before .before .before .before .x .given .1) _ (c .before .id-field .ensures) (digest-given (c .before .id-field .result))
+returns-2 c = may-at _ _ _ (c .before .before .before .before .before .before .find-member .ensures .means) _ _ _ (c .before .before .before .before .x .given .1) _ (c .before .id-field .ensures) (digest-given (c .before .id-field .result))
 
 pub digest-may-spec : {M : Type 1} → statement M
 digest-may-spec =

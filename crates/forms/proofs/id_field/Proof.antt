@@ -14,7 +14,7 @@ no-id-requires : tie.Need-no-id-requires
 no-id-requires c κs = search needs
 
 returns : tie.Need-returns
-returns c = must-none _ _ _ (c .before .before .before .find-member .ensures) _ _ (c .before .enum-told .given .1) (c .no-id .ensures)
+returns c = must-none _ _ _ (c .before .before .before .find-member .ensures .means) _ _ (c .before .enum-told .given .1) (c .no-id .ensures)
 
 enum-known-x : tie.Need-enum-known-x
 enum-known-x c = search needs
@@ -23,7 +23,7 @@ id-at-requires : tie.Need-id-at-requires
 id-at-requires c κs = search needs
 
 returns-2 : tie.Need-returns-2
-returns-2 c = must-at _ _ _ (c .before .before .before .before .find-member .ensures) _ _ _ (c .before .before .x .given .1) (c .id-at .ensures)
+returns-2 c = must-at _ _ _ (c .before .before .before .before .find-member .ensures .means) _ _ _ (c .before .before .x .given .1) (c .id-at .ensures)
 
 pub id-field-spec : {M : Type 1} → statement M
 id-field-spec =

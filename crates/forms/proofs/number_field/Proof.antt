@@ -13,7 +13,7 @@ enum-told : tie.Need-enum-told
 enum-told c = search needs
 
 returns : tie.Need-returns
-returns c = must-none _ _ _ (c .before .before .find-member .ensures) _ _ (c .enum-told .given .1) refl
+returns c = must-none _ _ _ (c .before .before .find-member .ensures .means) _ _ (c .enum-told .given .1) refl
 
 enum-known-x : tie.Need-enum-known-x
 enum-known-x c = search needs
@@ -22,7 +22,7 @@ number-at-requires : tie.Need-number-at-requires
 number-at-requires c κs = search needs
 
 returns-2 : tie.Need-returns-2
-returns-2 c = must-at _ _ _ (c .before .before .before .before .find-member .ensures) _ _ _ (c .before .before .x .given .1) (number-takes _ _ _ _ _ (c .number-at .ensures))
+returns-2 c = must-at _ _ _ (c .before .before .before .before .find-member .ensures .means) _ _ _ (c .before .before .x .given .1) (number-takes _ _ _ _ _ (c .number-at .ensures))
 
 pub number-field-spec : {M : Type 1} → statement M
 number-field-spec =

@@ -17,7 +17,7 @@ enum-told c = search needs
 
 returns : tie.Need-returns
 unfolding viewMayNumber keep bind
-returns c = may-none _ _ _ (c .before .before .find-member .ensures) _ _ (c .enum-told .given .1) refl
+returns c = may-none _ _ _ (c .before .before .find-member .ensures .means) _ _ (c .enum-told .given .1) refl
 
 enum-known-x : tie.Need-enum-known-x
 enum-known-x c = search needs
@@ -30,14 +30,14 @@ enum-told-2 c = search needs
 
 returns-2 : tie.Need-returns-2
 unfolding viewMayNumber keep bind
-returns-2 c = may-at _ _ _ (c .before .before .before .before .before .before .find-member .ensures) _ _ _ (c .before .before .before .before .x .given .1) _ (number-takes _ _ _ _ _ (c .before .before .number-at .ensures)) (rw (c .enum-told2 .given .1) refl)
+returns-2 c = may-at _ _ _ (c .before .before .before .before .before .before .find-member .ensures .means) _ _ _ (c .before .before .before .before .x .given .1) _ (number-takes _ _ _ _ _ (c .before .before .number-at .ensures)) (rw (c .enum-told2 .given .1) refl)
 
 enum-known-n : tie.Need-enum-known-n
 enum-known-n c = search needs
 
 returns-3 : tie.Need-returns-3
 unfolding viewMayNumber keep bind
-returns-3 c = may-at _ _ _ (c .before .before .before .before .before .before .before .find-member .ensures) _ _ _ (c .before .before .before .before .before .x .given .1) _ (number-takes _ _ _ _ _ (c .before .before .before .number-at .ensures)) (rw (c .before .n .given .1) refl)
+returns-3 c = may-at _ _ _ (c .before .before .before .before .before .before .before .find-member .ensures .means) _ _ _ (c .before .before .before .before .before .x .given .1) _ (number-takes _ _ _ _ _ (c .before .before .before .number-at .ensures)) (rw (c .before .n .given .1) refl)
 
 pub number-may-spec : {M : Type 1} → statement M
 number-may-spec =

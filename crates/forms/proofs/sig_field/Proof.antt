@@ -17,7 +17,7 @@ no-sig-requires : tie.Need-no-sig-requires
 no-sig-requires c κs = search needs
 
 returns : tie.Need-returns
-returns c = must-none _ _ _ (c .before .before .before .find-member .ensures) _ _ (c .before .enum-told .given .1) (c .no-sig .ensures)
+returns c = must-none _ _ _ (c .before .before .before .find-member .ensures .means) _ _ (c .before .enum-told .given .1) (c .no-sig .ensures)
 
 enum-known-x : tie.Need-enum-known-x
 enum-known-x c = search needs
@@ -26,7 +26,7 @@ sig-at-requires : tie.Need-sig-at-requires
 sig-at-requires c κs = search needs
 
 returns-2 : tie.Need-returns-2
-returns-2 c = must-at _ _ _ (c .before .before .before .before .find-member .ensures) _ _ _ (c .before .before .x .given .1) (c .sig-at .ensures)
+returns-2 c = must-at _ _ _ (c .before .before .before .before .find-member .ensures .means) _ _ _ (c .before .before .x .given .1) (c .sig-at .ensures)
 
 pub sig-field-spec : {M : Type 1} → statement M
 sig-field-spec =

@@ -14,7 +14,7 @@ enum-told c = search needs
 
 returns : tie.Need-returns
 unfolding keep
-returns c = must-none _ _ _ (c .before .before .find-member .ensures) _ _ (c .enum-told .given .1) refl
+returns c = must-none _ _ _ (c .before .before .find-member .ensures .means) _ _ (c .enum-told .given .1) refl
 
 enum-known-x : tie.Need-enum-known-x
 enum-known-x c = search needs
@@ -23,7 +23,7 @@ word-at-requires : tie.Need-word-at-requires
 word-at-requires c κs = search needs
 
 returns-2 : tie.Need-returns-2
-returns-2 c = must-at _ _ _ (c .before .before .before .before .find-member .ensures) _ _ _ (c .before .before .x .given .1) (c .word-at .ensures)
+returns-2 c = must-at _ _ _ (c .before .before .before .before .find-member .ensures .means) _ _ _ (c .before .before .x .given .1) (c .word-at .ensures)
 
 pub word-field-spec : {M : Type 1} → statement M
 word-field-spec =

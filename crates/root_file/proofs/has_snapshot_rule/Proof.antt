@@ -19,7 +19,7 @@ enum-told c = search needs
 
 returns : tie.Need-returns
 unfolding keep
-returns c = must-none _ _ _ ((c .before .before) .find-member .ensures) _ _ (c .enum-told .given .1) refl
+returns c = must-none _ _ _ ((c .before .before) .find-member .ensures .means) _ _ (c .enum-told .given .1) refl
 
 enum-known-x : tie.Need-enum-known-x
 enum-known-x c = search needs
@@ -31,13 +31,13 @@ enum-told-2 : tie.Need-enum-told-2
 enum-told-2 c = search needs
 
 returns-2 : tie.Need-returns-2
-returns-2 c = must-at _ _ _ ((c .before .before .before .before .before .before) .find-member .ensures) _ _ _ ((c .before .before .before .before) .x .given .1) (truth-not _ _ (ap viewTruth (sym (c .enum-told2 .given .1)) ∙ (c .before .before) .truth-at .ensures))
+returns-2 c = must-at _ _ _ ((c .before .before .before .before .before .before) .find-member .ensures .means) _ _ _ ((c .before .before .before .before) .x .given .1) (truth-not _ _ (ap viewTruth (sym (c .enum-told2 .given .1)) ∙ (c .before .before) .truth-at .ensures))
 
 enum-told-3 : tie.Need-enum-told-3
 enum-told-3 c = search needs
 
 returns-3 : tie.Need-returns-3
-returns-3 c = must-at _ _ _ ((c .before .before .before .before .before .before) .find-member .ensures) _ _ _ ((c .before .before .before .before) .x .given .1) (truth-said _ _ _ (ap viewTruth (sym (c .enum-told3 .given .1)) ∙ (c .before .before) .truth-at .ensures))
+returns-3 c = must-at _ _ _ ((c .before .before .before .before .before .before) .find-member .ensures .means) _ _ _ ((c .before .before .before .before) .x .given .1) (truth-said _ _ _ (ap viewTruth (sym (c .enum-told3 .given .1)) ∙ (c .before .before) .truth-at .ensures))
 
 pub has-snapshot-rule-spec : {M : Type 1} → statement M
 has-snapshot-rule-spec =

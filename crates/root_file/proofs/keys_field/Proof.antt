@@ -20,7 +20,7 @@ no-keys-requires c κs = search needs
 
 returns : tie.Need-returns
 unfolding viewKeysAt
-returns c = must-none _ _ _ ((c .before .before .before) .find-member .ensures) _ _ ((c .before) .enum-told .given .1) (cut _ _ (c .no-keys .ensures))
+returns c = must-none _ _ _ ((c .before .before .before) .find-member .ensures .means) _ _ ((c .before) .enum-told .given .1) (cut _ _ (c .no-keys .ensures))
 
 enum-known-x : tie.Need-enum-known-x
 enum-known-x c = search needs
@@ -29,7 +29,7 @@ keys-at-requires : tie.Need-keys-at-requires
 keys-at-requires c κs = search needs
 
 returns-2 : tie.Need-returns-2
-returns-2 c = must-at _ _ _ ((c .before .before .before .before) .find-member .ensures) _ _ _ ((c .before .before) .x .given .1) (c .keys-at .ensures)
+returns-2 c = must-at _ _ _ ((c .before .before .before .before) .find-member .ensures .means) _ _ _ ((c .before .before) .x .given .1) (c .keys-at .ensures)
 
 pub keys-field-spec : {M : Type 1} → statement M
 keys-field-spec =

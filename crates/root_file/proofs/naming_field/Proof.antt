@@ -20,7 +20,7 @@ no-naming-requires c κs = search needs
 
 returns : tie.Need-returns
 unfolding viewNamingAt
-returns c = must-none _ _ _ ((c .before .before .before) .find-member .ensures) _ _ ((c .before) .enum-told .given .1) (cut _ _ (c .no-naming .ensures))
+returns c = must-none _ _ _ ((c .before .before .before) .find-member .ensures .means) _ _ ((c .before) .enum-told .given .1) (cut _ _ (c .no-naming .ensures))
 
 enum-known-x : tie.Need-enum-known-x
 enum-known-x c = search needs
@@ -29,7 +29,7 @@ naming-at-requires : tie.Need-naming-at-requires
 naming-at-requires c κs = search needs
 
 returns-2 : tie.Need-returns-2
-returns-2 c = must-at _ _ _ ((c .before .before .before .before) .find-member .ensures) _ _ _ ((c .before .before) .x .given .1) (c .naming-at .ensures)
+returns-2 c = must-at _ _ _ ((c .before .before .before .before) .find-member .ensures .means) _ _ _ ((c .before .before) .x .given .1) (c .naming-at .ensures)
 
 pub naming-field-spec : {M : Type 1} → statement M
 naming-field-spec =

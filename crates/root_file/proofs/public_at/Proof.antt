@@ -18,7 +18,7 @@ enum-told c = search needs
 
 returns : tie.Need-returns
 unfolding viewIdAt keep
-returns c = must-none _ _ _ ((c .before .before) .find-member .ensures) _ _ (c .enum-told .given .1) refl
+returns c = must-none _ _ _ ((c .before .before) .find-member .ensures .means) _ _ (c .enum-told .given .1) refl
 
 enum-known-x : tie.Need-enum-known-x
 enum-known-x c = search needs
@@ -30,7 +30,7 @@ id-field-requires : tie.Need-id-field-requires
 id-field-requires c κs = search needs
 
 returns-2 : tie.Need-returns-2
-returns-2 c = must-at _ _ _ ((c .before .before .before .before .before) .find-member .ensures) _ _ _ ((c .before .before .before) .x .given .1) (c .id-field .ensures)
+returns-2 c = must-at _ _ _ ((c .before .before .before .before .before) .find-member .ensures .means) _ _ _ ((c .before .before .before) .x .given .1) (c .id-field .ensures)
 
 pub public-at-spec : {M : Type 1} → statement M
 public-at-spec =

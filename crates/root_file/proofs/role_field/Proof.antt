@@ -17,7 +17,7 @@ no-role-requires c κs = search needs
 
 returns : tie.Need-returns
 unfolding viewRoleAt
-returns c = must-none _ _ _ ((c .before .before .before) .find-member .ensures) _ _ ((c .before) .enum-told .given .1) (cut _ _ (c .no-role .ensures))
+returns c = must-none _ _ _ ((c .before .before .before) .find-member .ensures .means) _ _ ((c .before) .enum-told .given .1) (cut _ _ (c .no-role .ensures))
 
 enum-known-x : tie.Need-enum-known-x
 enum-known-x c = search needs
@@ -26,7 +26,7 @@ role-at-requires : tie.Need-role-at-requires
 role-at-requires c κs = search needs
 
 returns-2 : tie.Need-returns-2
-returns-2 c = must-at _ _ _ ((c .before .before .before .before) .find-member .ensures) _ _ _ ((c .before .before) .x .given .1) (c .role-at .ensures)
+returns-2 c = must-at _ _ _ ((c .before .before .before .before) .find-member .ensures .means) _ _ _ ((c .before .before) .x .given .1) (c .role-at .ensures)
 
 pub role-field-spec : {M : Type 1} → statement M
 role-field-spec =

@@ -20,7 +20,7 @@ no-roles-requires c κs = search needs
 
 returns : tie.Need-returns
 unfolding viewRolesAt
-returns c = must-none _ _ _ ((c .before .before .before) .find-member .ensures) _ _ ((c .before) .enum-told .given .1) (cut _ _ (c .no-roles .ensures))
+returns c = must-none _ _ _ ((c .before .before .before) .find-member .ensures .means) _ _ ((c .before) .enum-told .given .1) (cut _ _ (c .no-roles .ensures))
 
 enum-known-x : tie.Need-enum-known-x
 enum-known-x c = search needs
@@ -29,7 +29,7 @@ roles-at-requires : tie.Need-roles-at-requires
 roles-at-requires c κs = search needs
 
 returns-2 : tie.Need-returns-2
-returns-2 c = must-at _ _ _ ((c .before .before .before .before) .find-member .ensures) _ _ _ ((c .before .before) .x .given .1) (c .roles-at .ensures)
+returns-2 c = must-at _ _ _ ((c .before .before .before .before) .find-member .ensures .means) _ _ _ ((c .before .before) .x .given .1) (c .roles-at .ensures)
 
 pub roles-field-spec : {M : Type 1} → statement M
 roles-field-spec =

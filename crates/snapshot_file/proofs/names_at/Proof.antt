@@ -17,7 +17,7 @@ no-names-requires : tie.Need-no-names-requires
 no-names-requires c κs = search needs
 
 returns : tie.Need-returns
-returns c = targets-missing _ _ (c .before .before .before .find-member .ensures) _ (c .before .enum-told .given .1) (c .no-names .ensures)
+returns c = targets-missing _ _ (c .before .before .before .find-member .ensures .means) _ (c .before .enum-told .given .1) (c .no-names .ensures)
 
 enum-told-2 : tie.Need-enum-told-2
 enum-told-2 c = search needs
@@ -26,7 +26,7 @@ each-named-requires : tie.Need-each-named-requires
 each-named-requires c κs = search needs
 
 returns-2 : tie.Need-returns-2
-returns-2 c = targets-there _ _ (c .before .before .before .find-member .ensures) _ _ (c .before .enum-told2 .given .1) (c .each-named .ensures)
+returns-2 c = targets-there _ _ (c .before .before .before .find-member .ensures .means) _ _ (c .before .enum-told2 .given .1) (c .each-named .ensures)
 
 pub names-at-spec : {M : Type 1} → statement M
 names-at-spec =

@@ -19,7 +19,7 @@ no-listed-requires c κs = search needs
 
 returns : tie.Need-returns
 unfolding timestamp
-returns c = must-none _ _ _ (c .before .before .before .find-member .ensures) _ _ (c .before .enum-told .given .1) (c .no-listed .ensures)
+returns c = must-none _ _ _ (c .before .before .before .find-member .ensures .means) _ _ (c .before .enum-told .given .1) (c .no-listed .ensures)
 
 enum-known-x : tie.Need-enum-known-x
 enum-known-x c = search needs
@@ -29,7 +29,7 @@ sole-listed-requires c κs = search needs
 
 returns-2 : tie.Need-returns-2
 unfolding timestamp
-returns-2 c = must-at _ _ _ (c .before .before .before .before .find-member .ensures) _ _ _ (c .before .before .x .given .1) (c .sole-listed .ensures)
+returns-2 c = must-at _ _ _ (c .before .before .before .before .find-member .ensures .means) _ _ _ (c .before .before .x .given .1) (c .sole-listed .ensures)
 
 pub meta-listed-spec : {M : Type 1} → statement M
 meta-listed-spec =

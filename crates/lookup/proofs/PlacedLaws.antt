@@ -1,4 +1,4 @@
--- The search for a member of the file's object, with the exact place of its value.
+-- The search for a member by name, with the exact place of its value.
 use mathlib.Core.Path.{_≡_, refl, sym, ap, _∙_}
 use mathlib.Core.List.{[], _∷_, _++_}
 use mathlib.Core.Option.{Option, none, some, bind}
@@ -9,18 +9,15 @@ use lib.ListN.{length, drop, length-append, length-drop}
 use Rattle.base.specs.Bytes.{Bytes, same}
 use Rattle.json.specs.Json.{Json, str, Members, mcons, put, putBytes, putStr}
 use Rattle.json.specs.Read.{raw}
-use Rattle.json.specs.Fields.{members}
+use Rattle.json.specs.Fields.{members, placeFrom}
 use Rattle.json.proofs.Puts.{put-str}
 use Rattle.json.proofs.Slices.{put-split}
 use Rattle.lookup.specs.Place.{Stands}
 use Rattle.lookup.specs.Walk.{MembersLeft, members-end, members-at, MembersOf, NameAt, FirstMember, NextMember}
 use Rattle.lookup.specs.declared.Member.{Member}
 use Rattle.lookup.specs.declared.Member.the-variants.{NoObject, End, At}
 use Rattle.lookup.proofs.MemberLaws.{member-stands, member-name}
 use Rattle.lookup.proofs.StandsLaws.{inside}
-use Rattle.rules.specs.Take.{_>>=_}
-use Rattle.rules.specs.Forms.{placeFrom, placeOf}
-use Rattle.envelope.specs.Open.{object}
 
 -- ## Lengths
 
@@ -61,13 +58,13 @@ module _ (s k : Bytes) where
   left-placed p members-end e = refl
   left-placed p (members-at {n = n} {v = v} {ms = ms} rest t u g) e = (p, n, v, ms, members-at rest t u g, e, refl)
 
-  pub placed-first : (m : Member) → FirstMember s 0 m → (v : Json) → Stands s 0 v → Placed s k m (members v >>= placeOf k)
-  unfolding placeOf bind
-  placed-first m w v h = go (members v) (w .means v h)
+  pub placed-first : (p : ℕ) (m : Member) → FirstMember s p m → (v : Json) → Stands s p v → Placed s k m (bind (members v) (placeFrom (p + 1) k))
+  unfolding bind
+  placed-first p m w v h = go (members v) (w .means v h)
     where
-      go : (o : Option Members) → MembersOf s m o → Placed s k m (o >>= placeOf k)
+      go : (o : Option Members) → MembersOf s m o → Placed s k m (bind o (placeFrom (p + 1) k))
       go none e = rw e refl
-      go (some ms) l = left-placed 1 l (w .place)
+      go (some ms) l = left-placed (p + 1) l (w .place)
 
   module _ (m : Member) (o : Option ℕ) (w : Placed s k m o) where
     pub placed-none : m ≡ NoObject → none ≡ o
@@ -103,26 +100,3 @@ module _ (s k : Bytes) where
         where
           later : (x : Member) (a b : ℕ) → a ≡ b → NameAt x (a + 1) → NameAt x (b + 1)
           later x a b e t = rw e at t
-
--- ## An object, by its first member
-
-module _ (s : Bytes) (p : ℕ) (m : Member) (w : FirstMember s p m) (v : Json) (h : Stands s p v) where
-  pub not-object : m ≡ NoObject → none ≡ object v
-  unfolding object bind
-  not-object q = go (members v) (w .means v h)
-    where
-      left : (x : Member) (ms : Members) → x ≡ NoObject → MembersLeft s x ms → none ≡ some (tt {0})
-      left x ms q members-end = let z : _≡_ {A = ℕ} 0 1 = cc in absurd (omega arith)
-      left x ms q (members-at rest t u g) = let z : _≡_ {A = ℕ} 0 1 = cc in absurd (omega arith)
-
-      go : (o : Option Members) → MembersOf s m o → none ≡ (o >>= λ _. some (tt {0}))
-      go none e = refl
-      go (some ms) l = left m ms q l
-
-  pub is-object : (m ≡ NoObject → ⊥) → some (tt {0}) ≡ object v
-  unfolding object bind
-  is-object q = go (members v) (w .means v h)
-    where
-      go : (o : Option Members) → MembersOf s m o → some (tt {0}) ≡ (o >>= λ _. some (tt {0}))
-      go none e = absurd (q e)
-      go (some ms) l = refl
