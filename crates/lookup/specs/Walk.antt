@@ -58,13 +58,16 @@ ItemsOf s r none = r ≡ element.NoArray
 ItemsOf s r (some xs) = ItemsLeft s r xs
 
 -- What the functions promise that walk: `means` where a value stands, and elsewhere the answer is the program's choice; `onward` of every text, so that loops end.
+-- `place`: the first element begins past the opening bracket, a later one past the value before it and a comma. (Equal elements may stand elsewhere too.)
 pub record FirstElement (s : Bytes) (p : ℕ) (r : Element) : Type 0 where
   pub means : (v : Json) → Stands s p v → ItemsOf s r (items v)
   pub onward : ElementAfter s p r
+  pub place : (i : ℕ) → r ≡ element.At i → i ≡ p + 1
 
 pub record NextElement (s : Bytes) (i : ℕ) (r : Element) : Type 0 where
   pub means : (v : Json) (vs : Items) → ItemsLeft s (element.At i) (icons v vs) → ItemsLeft s r vs
   pub onward : ElementAfter s i r
+  pub place : (v : Json) (here : Stands s i v) (j : ℕ) → r ≡ element.At j → j ≡ length s - length (here .rest) + 1
 
 -- ## Members
 

@@ -8,7 +8,7 @@ opened-requires : tie.Need-opened-requires
 opened-requires c κs = search needs
 
 returns : tie.Need-returns
-returns c = record { means = items.first-items _ _ (c .opened .ensures); onward = c .opened .ensures .onward }
+returns c = record { means = items.first-items _ _ (c .opened .ensures); onward = c .opened .ensures .onward; place = items.opens-place _ _ _ _ (c .opened .ensures) }
 
 pub first-element-spec : {M : Type 1} → statement M
 first-element-spec = tie.close (tie.spec opened-requires returns)
