@@ -1,3 +1,4 @@
+pub mod BodyLaws
 pub mod EntryLaws
 pub mod HeaderLaws
 pub mod ObjectLaws

@@ -31,8 +31,8 @@ use Rattle.envelope.proofs.HeaderLaws.{file, no-file, file-by}
 
 -- ## Numbers of refusals
 
-fault-number : (f : Fault) → fault (faultNumber f) ≡ f
-unfolding fault faultNumber
+fault-number : (f : Fault) → fault (faultNumber f) ≡ some f
+unfolding fault faultNumber keep
 fault-number tooLong = refl
 fault-number notText = refl
 fault-number badForm = refl
@@ -116,6 +116,10 @@ module _ {A : Type 0} (type : Bytes) (body : Json → Option A) where
     pub known-is : knownSpec spec ≡ r .known
     pub is : readAs type body bytes ≡ ending spec r (body signed)
 
+  -- the file is refused, and r says which refusal it is
+  abbrev RefusedAs : Bytes → RoleFile → Type 0
+  RefusedAs bytes r = (f : Fault) × (r .answer ≡ faultNumber f) × (readAs type body bytes ≡ refused f)
+
   module _ (bytes : Bytes) (r : RoleFile) (w : Heads bytes r (headedBy type (readEnvelope bytes))) where
     pub ended : r .answer ≡ 0 → Ended bytes r
     unfolding after headedBy headed ending spoken known bind
@@ -136,46 +140,48 @@ module _ {A : Type 0} (type : Bytes) (body : Json → Option A) where
         envelope-of (refused f) w i = absurd (number-not-zero f (sym w ∙ z))
         envelope-of (says e ks) w i = header-of e (header type (e .signed)) refl w i
 
-    pub refused-as : (r .answer ≡ 0 → ⊥) → readAs type body bytes ≡ refused (fault (r .answer))
+    pub refused-as : (r .answer ≡ 0 → ⊥) → RefusedAs bytes r
     unfolding after headedBy headed spoken
     refused-as n = envelope-of (readEnvelope bytes) w (by-envelope bytes)
       where
         header-of : (e : Envelope) (h : Option Header) → header type (e .signed) ≡ h → Heads bytes r (headed e h) → readAs type body bytes ≡ spoken e (fileOf type body (e .signed))
-            → readAs type body bytes ≡ refused (fault (r .answer))
-        header-of e none q w i = i ∙ rw (← no-file type body (e .signed) (sym q), w) (ap refused (sym (fault-number badForm)))
+            → RefusedAs bytes r
+        header-of e none q w i = (badForm, w, i ∙ rw (← no-file type body (e .signed) (sym q)) refl)
         header-of e (some h) q w i = absurd (n (w .answer))
 
-        envelope-of : (e : Read Envelope) → Heads bytes r (headedBy type e) → readAs type body bytes ≡ after e → readAs type body bytes ≡ refused (fault (r .answer))
-        envelope-of (refused f) w i = i ∙ rw w (ap refused (sym (fault-number f)))
+        envelope-of : (e : Read Envelope) → Heads bytes r (headedBy type e) → readAs type body bytes ≡ after e → RefusedAs bytes r
+        envelope-of (refused f) w i = (f, w, i)
         envelope-of (says e ks) w i = header-of e (header type (e .signed)) refl w i
 
 -- ## The ways out of a function that reads a role's file, of which `keepIt` is kept
 
 module _ {A B : Type 0} (type : Bytes) (body : Json → Option A) (keepIt : File A → B) (bytes : Bytes) (r : RoleFile) (w : Heads bytes r (headedBy type (readEnvelope bytes))) (n : ℕ) (b : B) (es : List Bytes) where
-  pub role-refused : (r .answer ≡ 0 → ⊥) → n ≡ r .answer → viewRead n b es ≡ kept keepIt (readAs type body bytes)
-  unfolding viewRead kept
-  role-refused x e = rw (refused-as type body bytes r w x, e, ne-eqb (r .answer) 0 x)
+  said-refused : (f : Fault) → readAs type body bytes ≡ refused f → n ≡ faultNumber f
+      → viewRead n b es ≡ some (kept keepIt (readAs type body bytes))
+  unfolding viewRead kept bind
+  said-refused f s e = rw (s, e, ne-eqb (faultNumber f) 0 (number-not-zero f), fault-number f)
+
+  pub role-refused : (r .answer ≡ 0 → ⊥) → n ≡ r .answer → viewRead n b es ≡ some (kept keepIt (readAs type body bytes))
+  role-refused x e = let d = refused-as type body bytes r w x in said-refused (d .0) (d .2) (e ∙ d .1)
 
   module _ (z : r .answer ≡ 0) (ok : Bool) (a : A) (t : Takes bytes (r .start) body (keep ok a)) where
-    pub role-broken : ok ≡ false → n ≡ 3 → viewRead n b es ≡ kept keepIt (readAs type body bytes)
-    unfolding viewRead kept fault
+    pub role-broken : ok ≡ false → n ≡ 3 → viewRead n b es ≡ some (kept keepIt (readAs type body bytes))
+    unfolding faultNumber
     role-broken o e =
         let d = ended type body bytes r w z in
-        let s : readAs type body bytes ≡ refused badForm =
-        d .is ∙ ending-none type body (d .spec) r (body (d .signed)) (sym (t (d .signed) (d .stands)) ∙ cut ok a o)
-        in rw (s, e)
+        let s = ending-none type body (d .spec) r (body (d .signed)) (sym (t (d .signed) (d .stands)) ∙ cut ok a o) in
+        said-refused badForm (d .is ∙ s) e
 
     module _ (o : ok ≡ true) where
-      pub role-other : r .known ≡ false → n ≡ 4 → viewRead n b es ≡ kept keepIt (readAs type body bytes)
-      unfolding viewRead kept fault
+      pub role-other : r .known ≡ false → n ≡ 4 → viewRead n b es ≡ some (kept keepIt (readAs type body bytes))
+      unfolding faultNumber
       role-other k e =
           let d = ended type body bytes r w z in
-          let s : readAs type body bytes ≡ refused otherSpec =
-          d .is ∙ ending-other type body (d .spec) r (body (d .signed)) a (sym (t (d .signed) (d .stands)) ∙ held ok a o) k
-          in rw (s, e)
+          let s = ending-other type body (d .spec) r (body (d .signed)) a (sym (t (d .signed) (d .stands)) ∙ held ok a o) k in
+          said-refused otherSpec (d .is ∙ s) e
 
       pub role-says : r .known ≡ true → n ≡ 0 → ((spec : Bytes) → b ≡ keepIt (file spec (r .version) (r .expires .seconds) a))
-          → es ≡ viewEntries (r .entries) → viewRead n b es ≡ kept keepIt (readAs type body bytes)
+          → es ≡ viewEntries (r .entries) → viewRead n b es ≡ some (kept keepIt (readAs type body bytes))
       unfolding viewRead kept
       role-says k e m f =
           let d = ended type body bytes r w z in

@@ -7,7 +7,7 @@ use Prim.Native.Nat.{ℕ}
 use lib.Dec.{eqb}
 use Rattle.base.specs.Bytes.{Bytes}
 use Rattle.json.specs.Json.{Json}
-use Rattle.json.specs.Fields.{members}
+use Rattle.json.specs.Fields.{members, keep}
 use Rattle.lookup.specs.Place.{Stands}
 use Rattle.rules.specs.Take.{_>>=_}
 use Rattle.rules.specs.Records.{Fault, tooLong, notText, badForm, otherSpec, Read, refused, says}
@@ -72,8 +72,9 @@ Heads file r (says h ks) = IsHeaded file r h ks
 
 -- ## A role's file, read: the refusal of that number, or what it says
 
-unfoldable pub fault : ℕ → Fault
-fault n = cond (eqb n 1) tooLong (cond (eqb n 2) notText (cond (eqb n 3) badForm otherSpec))
+unfoldable pub fault : ℕ → Option Fault
+fault n = cond (eqb n 1) (some tooLong) (cond (eqb n 2) (some notText) (cond (eqb n 3) (some badForm) (keep (eqb n 4) otherSpec)))
 
-unfoldable pub viewRead : {A : Type 0} → ℕ → A → List Bytes → Read A
-viewRead n a es = cond (eqb n 0) (says a es) (refused (fault n))
+-- a number above 4 says nothing
+unfoldable pub viewRead : {A : Type 0} → ℕ → A → List Bytes → Option (Read A)
+viewRead n a es = cond (eqb n 0) (some (says a es)) (fault n >>= λ f. some (refused f))

@@ -59,5 +59,5 @@ viewRootAt r =
       };
     })
 
-unfoldable pub viewRootRead : RootRead → rules.Read state.Root
+unfoldable pub viewRootRead : RootRead → Option (rules.Read state.Root)
 viewRootRead r = viewRead (r .answer) (viewRoot (r .root)) (viewEntries (r .entries))

@@ -1,5 +1,6 @@
 // A root file, read (01, "Forms" and refusals 1 to 4): the key table and the four roles at a place of a canonical text, and the whole file.
 ghost use mathlib.Core.Path.{_≡_};
+ghost use mathlib.Core.Option.{some};
 ghost use mathlib.Core.Bool.{false};
 ghost use lib.ListN.{drop};
 ghost use Rattle.base.specs.Bytes.{bytes};
@@ -514,7 +515,7 @@ fn refused(answer: u8) -> RootRead
 
 // 3 before 4: the spec_version is asked for when the body was read.
 pub fn read_root(file: &[u8]) -> RootRead
-    ensures { λ r. ⌜ viewRootRead r ≡ rootIn (now (file .entry)) ⌝ }
+    ensures { λ r. ⌜ viewRootRead r ≡ some (rootIn (now (file .entry))) ⌝ }
 {
     let role = envelope::role_in(file, b"root");
     if role.answer != 0 {

@@ -22,5 +22,5 @@ viewNamedAt r = keep (r .ok) (viewNamed (r .named))
 unfoldable pub viewNamesAt : NamesAt → Option (List rules.Named)
 viewNamesAt r = keep (r .ok) (viewNames (r .names))
 
-unfoldable pub viewSnapshotRead : SnapshotRead → Read state.Snapshot
+unfoldable pub viewSnapshotRead : SnapshotRead → Option (Read state.Snapshot)
 viewSnapshotRead r = viewRead (r .answer) (viewSnapshot (r .snapshot)) (viewEntries (r .entries))

@@ -1,6 +1,6 @@
 // A snapshot file, read (01, refusals 1 to 4).
 ghost use mathlib.Core.Path.{_≡_};
-ghost use mathlib.Core.Option.{none};
+ghost use mathlib.Core.Option.{none, some};
 ghost use lib.ListN.{drop};
 ghost use Rattle.json.specs.Read.{raw};
 ghost use Rattle.lookup.specs.Place.{Takes};
@@ -204,7 +204,7 @@ fn refused(answer: u8) -> SnapshotRead
 }
 
 pub fn read_snapshot(file: &[u8]) -> SnapshotRead
-    ensures { λ r. ⌜ viewSnapshotRead r ≡ snapshotIn (now (file .entry)) ⌝ }
+    ensures { λ r. ⌜ viewSnapshotRead r ≡ some (snapshotIn (now (file .entry))) ⌝ }
 {
     let role = envelope::role_in(file, b"snapshot");
     if role.answer != 0 {

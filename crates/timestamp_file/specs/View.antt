@@ -14,5 +14,5 @@ use Rattle.timestamp_file.specs.declared.TimestampRead.{TimestampRead}
 unfoldable pub only : Bytes → Json → Option Json
 only k v = members v >>= single k
 
-unfoldable pub viewTimestampRead : TimestampRead → Read state.Timestamp
+unfoldable pub viewTimestampRead : TimestampRead → Option (Read state.Timestamp)
 viewTimestampRead r = viewRead (r .answer) (viewTimestamp (r .timestamp)) (viewEntries (r .entries))

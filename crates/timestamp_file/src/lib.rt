@@ -1,5 +1,6 @@
 // A timestamp file, read (01, refusals 1 to 4).
 ghost use mathlib.Core.Path.{_≡_};
+ghost use mathlib.Core.Option.{some};
 ghost use Rattle.base.specs.Bytes.{bytes};
 ghost use Rattle.lookup.specs.Place.{Finds, Takes};
 ghost use Rattle.rules.specs.Take.{sole};
@@ -96,7 +97,7 @@ fn refused(answer: u8) -> TimestampRead
 }
 
 pub fn read_timestamp(file: &[u8]) -> TimestampRead
-    ensures { λ r. ⌜ viewTimestampRead r ≡ timestampIn (now (file .entry)) ⌝ }
+    ensures { λ r. ⌜ viewTimestampRead r ≡ some (timestampIn (now (file .entry))) ⌝ }
 {
     let role = envelope::role_in(file, b"timestamp");
     if role.answer != 0 {
