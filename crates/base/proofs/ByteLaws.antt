@@ -7,7 +7,7 @@ use lib.Dec.{eqb, leb}
 use lib.ListN.{length, drop, getD}
 use borrow.Author.Tests.{eq-eqb, ne-eqb, eqb-true, le-leb, lt-leb, leb-true}
 use Rattle.base.specs.Bytes.{Bytes, same, isDigit}
-use Rattle.base.proofs.TestLaws.{never, both}
+use Rattle.base.proofs.TestLaws.{never, both, same-test}
 use Rattle.base.proofs.PlaceLaws.{at-cons, at-end}
 
 pub same-none : same [] [] ≡ true
@@ -35,6 +35,10 @@ same-true (x ∷ a) [] e = never (sym e)
 same-true (x ∷ a) (y ∷ b) e =
     let w = both (eqb x y) (same a b) e in
     ap (λ (n : ℕ). n ∷ a) (eqb-true x y (w .0)) ∙ ap (λ (t : Bytes). y ∷ t) (same-true a b (w .1))
+
+pub same-sym : (a b : Bytes) → same a b ≡ same b a
+same-sym a b =
+    same-test (same a b) (same b a) (λ e. rw (same-true a b e) (same-self b)) (λ e. rw (same-true b a e) (same-self a))
 
 -- byte strings of different lengths differ
 pub same-lengths : (a b : Bytes) → (length a ≡ length b → ⊥) → same a b ≡ false

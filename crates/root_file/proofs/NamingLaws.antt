@@ -12,8 +12,8 @@ use lib.Dec.{eqb, ltb}
 use borrow.Author.Tests.{lt-ltb, ltb-true, eqb-false}
 use Rattle.base.specs.Bytes.{Bytes, same}
 use Rattle.base.specs.Window.{run}
-use Rattle.base.proofs.ByteLaws.{same-self, same-true}
-use Rattle.base.proofs.TestLaws.{never, both, neither, same-test}
+use Rattle.base.proofs.ByteLaws.{same-true, same-sym}
+use Rattle.base.proofs.TestLaws.{never, both, neither}
 use Rattle.rules.specs.Limits.{maxKeys}
 use Rattle.rules.specs.Records.{Key}
 use Rattle.rules.specs.Forms.{isIn, different, allOf}
@@ -26,9 +26,6 @@ use Rattle.root_file.specs.Body.{keyidsIn, isNaming}
 use Rattle.root_file.proofs.TableLaws.{map-run}
 
 -- ## Lists, and one byte string more
-
-same-sym : (a b : Bytes) → same a b ≡ same b a
-same-sym a b = same-test (same a b) (same b a) (λ e. rw (same-true a b e) (same-self b)) (λ e. rw (same-true b a e) (same-self a))
 
 isIn-last : (x y : Bytes) (a : List Bytes) → isIn x (a ++ (y ∷ [])) ≡ isIn x a || same y x
 unfolding isIn

@@ -6,8 +6,8 @@ use mathlib.Core.List.{List, _∷_}
 use Prim.Native.Nat.{_≤_}
 use lib.Dec.{leb}
 use lib.ListN.{length}
+use Rattle.base.proofs.ByteLaws.{same-sym}
 use Rattle.base.specs.Bytes.{Bytes, bytes, same}
-use Rattle.base.proofs.TestLaws.{same-test}
 use Rattle.json.specs.Json.{Json, Members, mnil, mcons}
 use Rattle.json.specs.Fields.{lookup}
 use Rattle.rules.specs.Limits.{maxName, maxVersion}
@@ -18,12 +18,7 @@ use Rattle.rules.specs.Reading.{readSnapshot}
 use Rattle.rules.specs.State.{Snapshot, keepSnapshot, snapshotIn}
 use Rattle.rules.specs.Conditions.{listedAs}
 use Rattle.rules.proofs.OptionLaws.{none-not-some, some-is, had, kept-is, number-within}
-use Rattle.rules.proofs.ListLaws.{same-exactly}
 use Rattle.rules.proofs.ReadingLaws.{role-file, body-is, kept-says}
-
-same-sym : (a b : Bytes) → same a b ≡ same b a
-same-sym a b =
-    same-test (same a b) (same b a) (λ e. same-exactly b a .1 (sym (same-exactly a b .0 e))) (λ e. same-exactly a b .1 (sym (same-exactly b a .0 e)))
 
 -- a name that is listed, and what is said of it
 named-is : (name : Bytes) (v : Json) (n : Named) → named name v ≡ some n → (name ≡ n .name) × (listed v ≡ some (n .listed))
