@@ -1,0 +1,65 @@
+-- No call answers with a number above 15, so that every answer has its name.
+use mathlib.Core.Path.{_≡_, refl}
+use mathlib.Core.Bool.{Bool, true, false, _&&_}
+use mathlib.Core.List.{List, [], _∷_}
+use Prim.Native.Nat.{ℕ, _≤_, min}
+use native.Mathlib.Omega.{arith}
+use lib.Dec.{leb}
+use borrow.Author.Tests.{leb-true}
+use Rattle.base.specs.Bytes.{Bytes}
+use Rattle.base.proofs.TestLaws.{both}
+use Rattle.rules.specs.Records.{Fault, tooLong, notText, badForm, otherSpec, Read, refused, says}
+use Rattle.rules.specs.State.{State, Install, Call, newCycle, newRoot, newTimestamp, newSnapshot, newTargets, find, askKey, askState, rootIn, timestampIn, snapshotIn, targetsIn}
+use Rattle.rules.specs.Table.{Refusal, _when_, first}
+use Rattle.rules.specs.Steps.{installTable, cycleTable, rootTable, timestampTable, snapshotTable, targetsTable, findTable, keyTable, faultNumber, judged, installAnswer, answer}
+use Rattle.rules.specs.Asked.{Found, imageTable, imageAnswer}
+
+abbrev highest : ℕ
+highest = 15
+
+-- no line has a number above 15
+abbrev below : List Refusal → Bool
+below [] = true
+below (n when b ∷ rest) = leb n highest && below rest
+
+first-most : (rows : List Refusal) → below rows ≡ true → first rows ≤ highest
+unfolding first
+first-most [] e = omega arith
+first-most (n when true ∷ rest) e = leb-true n highest (both (leb n highest) (below rest) e .0)
+first-most (n when false ∷ rest) e = first-most rest (both (leb n highest) (below rest) e .1)
+
+pub fault-most : (f : Fault) → faultNumber f ≤ highest
+unfolding faultNumber
+fault-most tooLong = omega arith
+fault-most notText = omega arith
+fault-most badForm = omega arith
+fault-most otherSpec = omega arith
+
+judged-most : {A : Type 0} (r : Read A) (table : A → List Bytes → List Refusal) → ((a : A) (es : List Bytes) → below (table a es) ≡ true)
+    → judged r table ≤ highest
+unfolding judged
+judged-most (refused f) table e = fault-most f
+judged-most (says a es) table e = first-most (table a es) (e a es)
+
+pub install-most : (o : Install) → installAnswer o ≤ highest
+unfolding installAnswer installTable
+install-most o = judged-most (rootIn (o .file)) (installTable o) (λ a es. refl)
+
+pub answer-most : (s : State) (c : Call) → answer s c ≤ highest
+unfolding answer cycleTable rootTable timestampTable snapshotTable targetsTable findTable keyTable
+answer-most s (newCycle t) = first-most (cycleTable s t) refl
+answer-most s (newRoot o) = judged-most (rootIn (o .file)) (rootTable s o) (λ a es. refl)
+answer-most s (newTimestamp o) = judged-most (timestampIn (o .file)) (timestampTable s o) (λ a es. refl)
+answer-most s (newSnapshot o) = judged-most (snapshotIn (o .file)) (snapshotTable s o) (λ a es. refl)
+answer-most s (newTargets o) = judged-most (targetsIn (o .file)) (targetsTable s o) (λ a es. refl)
+answer-most s (find q) = judged-most (targetsIn (q .file)) (findTable s q) (λ a es. refl)
+answer-most s (askKey k) = first-most (keyTable s k) refl
+answer-most s askState = omega arith
+
+pub image-most : (listed fetched : Found) → imageAnswer listed fetched ≤ highest
+unfolding imageAnswer imageTable
+image-most listed fetched = first-most (imageTable listed fetched) refl
+
+-- a number with its name is itself
+pub named : {a n m : ℕ} → a ≡ min n highest → n ≡ m → m ≤ highest → a ≡ m
+named e f h = omega arith
