@@ -3,4 +3,5 @@ pub mod EntryLaws
 pub mod HeaderLaws
 pub mod ObjectLaws
 pub mod OpenLaws
+pub mod ReadLaws
 pub mod RoleLaws

@@ -1,11 +1,10 @@
 -- A role's file: from the envelope to its header, and from the header and a body to what the file says. 3 is said before 4.
 -- The laws `role-refused`, `role-broken`, `role-other` and `role-says` are the ways out of a function that reads the file of a role.
-use mathlib.Core.Path.{_≡_, refl, sym, ap, _∙_}
+use mathlib.Core.Path.{_≡_, refl, sym, _∙_}
 use mathlib.Core.Option.{Option, none, some, bind}
 use mathlib.Core.List.{List}
 use mathlib.Core.Bool.{Bool, true, false, cond}
 use Prim.Native.Nat.{ℕ}
-use native.Mathlib.Omega.{arith}
 use lib.Dec.{leb}
 use lib.IntN.{ℤ}
 use lib.ListN.{length}
@@ -21,6 +20,7 @@ use Rattle.rules.specs.Forms.{Envelope, envelope, knownSpec, fileOf}
 use Rattle.rules.specs.Reading.{parsed, judgedText, readWith, keyidsOf, opened, readEnvelope, known, spoken, inEnvelope, readAs}
 use Rattle.rules.specs.State.{kept}
 use Rattle.rules.specs.Steps.{faultNumber}
+use Rattle.rules.proofs.TableLaws.{fault-refuses}
 use Rattle.records.specs.View.{viewEntries}
 use Rattle.envelope.specs.Header.{Header, header}
 use Rattle.envelope.specs.Open.{Opens, headed, headedBy, Heads, fault, viewRead}
@@ -38,13 +38,6 @@ fault-number notText = refl
 fault-number badForm = refl
 fault-number otherSpec = refl
 
-number-not-zero : (f : Fault) → faultNumber f ≡ 0 → ⊥
-unfolding faultNumber
-number-not-zero tooLong e = omega arith
-number-not-zero notText e = omega arith
-number-not-zero badForm e = omega arith
-number-not-zero otherSpec e = omega arith
-
 -- ## From the envelope to the header
 
 module _ (type bytes : Bytes) (o : Opened) (r : RoleFile) where
@@ -56,13 +49,13 @@ module _ (type bytes : Bytes) (o : Opened) (r : RoleFile) where
   module _ (z : o .answer ≡ 0) (h : Option Header) (t : Takes bytes (o .start) (header type) h) where
     pub heads-broken : (e : Read Envelope) → Opens bytes o e → h ≡ none → r .answer ≡ 3 → Heads bytes r (headedBy type e)
     unfolding headedBy headed faultNumber
-    heads-broken (refused f) w q a = absurd (number-not-zero f (sym (w .answer) ∙ z))
+    heads-broken (refused f) w q a = absurd (fault-refuses f (sym (w .answer) ∙ z))
     heads-broken (says d ks) w q a = let e : header type (d .signed) ≡ none = sym (t (d .signed) (w .stands)) ∙ q in rw e a
 
     pub heads-is : (e : Read Envelope) → Opens bytes o e → (x : Header) → h ≡ some x → r .answer ≡ 0 → r .known ≡ x .known → r .version ≡ x .version → r .expires .seconds ≡ x .expires
         → viewEntries (r .entries) ≡ viewEntries (o .entries) → r .start ≡ o .start → Heads bytes r (headedBy type e)
     unfolding headedBy headed
-    heads-is (refused f) w x q a k n y ks st = absurd (number-not-zero f (sym (w .answer) ∙ z))
+    heads-is (refused f) w x q a k n y ks st = absurd (fault-refuses f (sym (w .answer) ∙ z))
     heads-is (says d ls) w x q a k n y ks st =
         let e : header type (d .signed) ≡ some x = sym (t (d .signed) (w .stands)) ∙ q in
         rw e (record { answer = a; known = k; version = n; expires = y; keyids = ks ∙ w .keyids; stands = moved st (w .stands) })
@@ -131,13 +124,13 @@ module _ {A : Type 0} (type : Bytes) (body : Json → Option A) where
         last e spec k n x a d c g ks (some b) f m = rw (m, a, d, c, g, ks) refl
 
         header-of : (e : Envelope) (h : Option Header) → header type (e .signed) ≡ h → Heads bytes r (headed e h) → readAs type body bytes ≡ spoken e (fileOf type body (e .signed)) → Ended bytes r
-        header-of e none q w i = absurd (number-not-zero badForm (sym w ∙ z))
+        header-of e none q w i = absurd (fault-refuses badForm (sym w ∙ z))
         header-of e (some h) q w i =
             let f = file-by type body (e .signed) h (sym q) in
             record { signed = e .signed; stands = w .stands; spec = f .0; known-is = f .1 ∙ sym (w .known); is = i ∙ last e (f .0) (h .known) (h .version) (h .expires) (f .1) (w .known) (w .version) (w .expires) (w .keyids) (body (e .signed)) (fileOf type body (e .signed)) (f .2) }
 
         envelope-of : (e : Read Envelope) → Heads bytes r (headedBy type e) → readAs type body bytes ≡ after e → Ended bytes r
-        envelope-of (refused f) w i = absurd (number-not-zero f (sym w ∙ z))
+        envelope-of (refused f) w i = absurd (fault-refuses f (sym w ∙ z))
         envelope-of (says e ks) w i = header-of e (header type (e .signed)) refl w i
 
     pub refused-as : (r .answer ≡ 0 → ⊥) → RefusedAs bytes r
@@ -159,7 +152,7 @@ module _ {A B : Type 0} (type : Bytes) (body : Json → Option A) (keepIt : File
   said-refused : (f : Fault) → readAs type body bytes ≡ refused f → n ≡ faultNumber f
       → viewRead n b es ≡ some (kept keepIt (readAs type body bytes))
   unfolding viewRead kept bind
-  said-refused f s e = rw (s, e, ne-eqb (faultNumber f) 0 (number-not-zero f), fault-number f)
+  said-refused f s e = rw (s, e, ne-eqb (faultNumber f) 0 (fault-refuses f), fault-number f)
 
   pub role-refused : (r .answer ≡ 0 → ⊥) → n ≡ r .answer → viewRead n b es ≡ some (kept keepIt (readAs type body bytes))
   role-refused x e = let d = refused-as type body bytes r w x in said-refused (d .0) (d .2) (e ∙ d .1)
