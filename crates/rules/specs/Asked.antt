@@ -4,7 +4,7 @@ use mathlib.Core.Bool.{cond, not}
 use mathlib.Core.List.{List, [], _∷_}
 use Prim.Native.Nat.{ℕ, zero, suc}
 use lib.Dec.{eqb}
-use lib.ListN.{length, replicate}
+use lib.ListN.{length, take, drop, replicate}
 use Rattle.base.specs.Bytes.{Bytes, same}
 use Rattle.base.specs.Hex.{undo}
 use Rattle.rules.specs.Limits.{digestSize, keySize, signatureSize}
@@ -80,6 +80,10 @@ lookOf (says e ks) = record { answer = 0; start = e .start; length = e .length; 
 
 unfoldable pub look : Bytes → Look
 look file = lookOf (readEnvelope file)
+
+-- the part itself: "the signed part of the caller's own bytes, not a copy"
+unfoldable pub signedPart : Bytes → Bytes
+signedPart file = take (look file .length) (drop (look file .start) file)
 
 -- ## Entry (1 to 3, 15): "its place counted from 0"; "32 and 64 bytes, the hex undone"
 

@@ -1,0 +1,3 @@
+pub mod LookLaws
+pub mod ElementLaws
+pub mod AskedLaws
