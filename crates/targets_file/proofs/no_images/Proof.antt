@@ -1,0 +1,13 @@
+-- `no_images` gives nothing.
+use mathlib.Core.Path.{refl}
+use Rattle.json.specs.Fields.{keep}
+use Rattle.targets_file.specs.View.{viewImages}
+use Rattle.targets_file.proofs.no_images.Statement.{statement}
+use Rattle.targets_file.proofs.no_images.Tie as tie
+
+returns : tie.Need-returns
+unfolding viewImages keep
+returns c = refl
+
+pub no-images-spec : {M : Type 1} → statement M
+no-images-spec = tie.close (tie.spec returns)
