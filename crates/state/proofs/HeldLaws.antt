@@ -1,14 +1,10 @@
--- Tests of a record that a flag says is held, and the refusals of a table asked one after another.
-use Prim.Native.Nat.{ℕ}
+-- Tests of a record that a flag says is held.
 use mathlib.Core.Path.{_≡_, refl, ap, _∙_}
 use mathlib.Core.Bool.{Bool, true, false, not, _&&_}
-use mathlib.Core.List.{List, [], _∷_}
 use mathlib.Core.Option.{some}
 use Rattle.json.specs.Fields.{keep}
-use Rattle.rules.specs.Table.{Refusal, _when_, first, ofHeld, absent}
+use Rattle.rules.specs.Table.{ofHeld, absent}
 use Rattle.rules.specs.Steps.{dropIf}
-
--- ## A record and its flag
 
 pub absent-test : {A : Type 0} (b : Bool) (x : A) → not b ≡ absent (keep b x)
 unfolding keep
@@ -39,19 +35,3 @@ drop-is false false x = refl
 pub dropped : {A : Type 0} (x : A) (held kept drops d : Bool) → kept ≡ held && not drops → drops ≡ d → keep kept x ≡ dropIf d (keep held x)
 dropped x held kept drops d p q =
     ap (λ (b : Bool). keep b x) (p ∙ ap (λ (e : Bool). held && not e) q) ∙ drop-is held d x
-
--- ## A table of refusals
-
-pub hit : (n : ℕ) (b : Bool) (rest : List Refusal) (r : Bool) → r ≡ b → r ≡ true → n ≡ first (n when b ∷ rest)
-unfolding first
-hit n b rest r p e = let q : b ≡ true = cc in rw q refl
-
-pub skip : (m n : ℕ) (b : Bool) (rest : List Refusal) (r : Bool) → r ≡ b → r ≡ false → m ≡ first rest → m ≡ first (n when b ∷ rest)
-unfolding first
-skip m n b rest r p e h = let q : b ≡ false = cc in rw q h
-
-pub none-holds : 0 ≡ first []
-unfolding first
-none-holds = refl
-
-pub ruleset table = (hit, skip, none-holds)

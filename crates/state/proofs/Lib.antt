@@ -1,2 +1,3 @@
 pub mod HeldLaws
+pub mod ToldLaws
 pub mod VersionLaws

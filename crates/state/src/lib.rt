@@ -1,5 +1,6 @@
-// The trusted state by value, and the judging of records that were already read: 01's table from 5 on.
+// The trusted state by value: its steps, the tests of what is held that judging asks, and what is told of it.
 use date::Time;
+use keys::Public;
 use records::Entries;
 use records::Id;
 use records::Key;
@@ -15,22 +16,23 @@ use records::Targets;
 use records::Timestamp;
 ghost use mathlib.Core.Path.{_≡_};
 ghost use mathlib.Core.Bool.{not, _&&_};
-ghost use mathlib.Core.List.{List};
+ghost use mathlib.Core.Option.{some};
 ghost use Prim.Native.Nat.{_+_};
 ghost use lib.Dec.{ltb, eqb};
+ghost use Rattle.base.specs.Bytes.{same};
+ghost use Rattle.json.specs.Fields.{keep};
 ghost use Rattle.date.specs.Calendar.{expired as expiredAt};
-ghost use Rattle.rules.specs.Records.{File, Image};
-ghost use Rattle.rules.specs.State.{TimestampOffer, RootOffer, FileOffer, Install};
-ghost use Rattle.rules.specs.State.{blank as blankState};
-ghost use Rattle.rules.specs.Table.{first, ofHeld, absent};
-ghost use Rattle.rules.specs.Conditions.{rotates, rotatesTargets, tooFew, otherVersion, badDigest, otherLength, otherDigest, lost, staleSnapshot, targetsEntry};
-ghost use Rattle.rules.specs.Steps.{withStart, withRoot, withTimestamp, withSnapshot, withTargets, rootAlone, timestampTable, rootTable, installTable, snapshotTable, targetsTable};
-ghost use Rattle.records.specs.View.{viewRoot, viewTimestamp, viewSnapshot, viewTargets, viewEntries, viewNames};
+ghost use Rattle.rules.specs.State.{Root as RootOf, blank as blankState};
+ghost use Rattle.rules.specs.Table.{ofHeld, absent};
+ghost use Rattle.rules.specs.Conditions.{rotates, rotatesTargets, tooFew, otherVersion, otherLength, otherDigest, lost, staleSnapshot, staleTargets, targetsEntry, keyOf};
+ghost use Rattle.rules.specs.Steps.{withStart, withRoot, withTimestamp, withSnapshot, withTargets, rootAlone};
+ghost use Rattle.records.specs.View.{viewId, viewRoot, viewTimestamp, viewSnapshot, viewTargets, viewEntries, viewNames};
+ghost use Rattle.keys.specs.Signers.{Asked};
 ghost use Rattle.state.specs.View.{view};
-ghost use Rattle.state.specs.Offer.{Measured, Dated};
+ghost use Rattle.state.specs.Told.{Shown, Tells};
 
 // Which records are held.
-struct Held {
+pub struct Held {
     root: bool,
     timestamp: bool,
     snapshot: bool,
@@ -44,6 +46,21 @@ pub struct State {
     timestamp: Timestamp,
     snapshot: Snapshot,
     targets: Targets,
+}
+
+// A record's version, where the record is held; else 0.
+pub struct Version {
+    pub held: bool,
+    pub number: u64,
+}
+
+// What is told of a state: the held versions and the start time.
+pub struct Versions {
+    pub root: Version,
+    pub timestamp: Version,
+    pub snapshot: Version,
+    pub targets: Version,
+    pub start: Time,
 }
 
 // ---- What an accepted root drops
@@ -87,24 +104,15 @@ fn is_not_next(new: u64, held: u64) -> bool
     new - 1 != held
 }
 
-// Refusal 5: "a digest not 32 bytes"
-fn is_bad_digest(d: &[u8]) -> bool
-    ensures { λ r. ⌜ r ≡ badDigest (now (d .entry)) ⌝ }
-{
-    d.len() != records::DIGEST
-}
+// ---- What is told of a record
 
-// "Install (1 to 5, 10): a root judged by its own root role"
-pub fn judge_install(offered: Root, entries: Entries, row: &[u8]) -> u8
-    ensures { λ r. ⌜ ((o : Install) → o .row ≡ now (row .entry) → r ≡ first (installTable o (viewRoot offered) (viewEntries entries))) ⌝ }
+fn version_if(held: bool, number: u64) -> Version
+    ensures { λ r. ⌜ Shown (keep held number) r ⌝ }
 {
-    if keys::bad_row(entries, row) {
-        return 5;
+    if !held {
+        return Version { held, number: 0 };
     }
-    if keys::too_few(offered.table, offered.root, entries, row) {
-        return 10;
-    }
-    0
+    Version { held, number }
 }
 
 impl State {
@@ -188,15 +196,9 @@ impl State {
     pub fn installed(root: Root, start: Time) -> State
         ensures { λ r. ⌜ view r ≡ rootAlone (viewRoot root) (start .seconds) ⌝ }
     {
-        let held = Held {
-            root: true,
-            timestamp: false,
-            snapshot: false,
-            targets: false,
-        };
         let mut next = State::blank();
         next.start = start;
-        next.held = held;
+        next.held.root = true;
         next.root = root;
         next
     }
@@ -260,26 +262,32 @@ impl State {
 
     // ---- Refusal 6: "a record the step needs is not held"
 
-    fn lacks_root(self) -> bool
+    pub fn lacks_root(self) -> bool
         ensures { λ r. ⌜ r ≡ absent (view self .root) ⌝ }
     {
         !self.held.root
     }
 
-    fn lacks_timestamp(self) -> bool
+    pub fn lacks_timestamp(self) -> bool
         ensures { λ r. ⌜ r ≡ absent (view self .timestamp) ⌝ }
     {
         !self.held.timestamp
     }
 
-    fn lacks_snapshot(self) -> bool
+    pub fn lacks_snapshot(self) -> bool
         ensures { λ r. ⌜ r ≡ absent (view self .snapshot) ⌝ }
     {
         !self.held.snapshot
     }
 
+    pub fn lacks_targets(self) -> bool
+        ensures { λ r. ⌜ r ≡ absent (view self .targets) ⌝ }
+    {
+        !self.held.targets
+    }
+
     // not "a current snapshot, whose version is the one the held timestamp lists"
-    fn has_stale_snapshot(self) -> bool
+    pub fn has_stale_snapshot(self) -> bool
         ensures { λ r. ⌜ r ≡ staleSnapshot (view self) ⌝ }
     {
         if !self.held.timestamp {
@@ -291,15 +299,29 @@ impl State {
         self.snapshot.version != self.timestamp.snapshot.version
     }
 
+    // not "current targets, whose version is the listed one"
+    pub fn has_stale_targets(self) -> bool
+        ensures { λ r. ⌜ r ≡ staleTargets (view self) ⌝ }
+    {
+        if !self.held.snapshot {
+            return false;
+        }
+        if !self.held.targets {
+            return false;
+        }
+        let listed = names::targets_entry(self.snapshot.names);
+        self.targets.version != listed.version
+    }
+
     // ---- Refusals 7 and 14
 
-    fn is_past(self, expires: Time) -> bool
+    pub fn is_past(self, expires: Time) -> bool
         ensures { λ r. ⌜ r ≡ expiredAt (expires .seconds) (view self .start) ⌝ }
     {
         expires.expired(self.start)
     }
 
-    fn has_past_root(self) -> bool
+    pub fn has_past_root(self) -> bool
         ensures { λ r. ⌜ r ≡ ofHeld (view self .root) (λ h. expiredAt (h .expires) (view self .start)) ⌝ }
     {
         if !self.held.root {
@@ -308,7 +330,7 @@ impl State {
         self.is_past(self.root.expires)
     }
 
-    fn has_past_timestamp(self) -> bool
+    pub fn has_past_timestamp(self) -> bool
         ensures { λ r. ⌜ r ≡ ofHeld (view self .timestamp) (λ h. expiredAt (h .expires) (view self .start)) ⌝ }
     {
         if !self.held.timestamp {
@@ -317,7 +339,7 @@ impl State {
         self.is_past(self.timestamp.expires)
     }
 
-    fn has_past_snapshot(self) -> bool
+    pub fn has_past_snapshot(self) -> bool
         ensures { λ r. ⌜ r ≡ ofHeld (view self .snapshot) (λ h. expiredAt (h .expires) (view self .start)) ⌝ }
     {
         if !self.held.snapshot {
@@ -326,9 +348,18 @@ impl State {
         self.is_past(self.snapshot.expires)
     }
 
+    pub fn has_past_targets(self) -> bool
+        ensures { λ r. ⌜ r ≡ ofHeld (view self .targets) (λ h. expiredAt (h .expires) (view self .start)) ⌝ }
+    {
+        if !self.held.targets {
+            return false;
+        }
+        self.is_past(self.targets.expires)
+    }
+
     // ---- Refusal 8: "length or digest differs from what is listed"
 
-    fn has_other_length(self, size: u64) -> bool
+    pub fn has_other_length(self, size: u64) -> bool
         ensures { λ r. ⌜ r ≡ ofHeld (view self .timestamp) (λ h. otherLength (h .snapshot) size) ⌝ }
     {
         if !self.held.timestamp {
@@ -337,7 +368,7 @@ impl State {
         names::other_length(self.timestamp.snapshot, size)
     }
 
-    fn has_other_digest(self, digest: &[u8]) -> bool
+    pub fn has_other_digest(self, digest: &[u8]) -> bool
         ensures { λ r. ⌜ r ≡ ofHeld (view self .timestamp) (λ h. otherDigest (h .snapshot) (now (digest .entry))) ⌝ }
     {
         if !self.held.timestamp {
@@ -347,7 +378,7 @@ impl State {
     }
 
     // "Checked against the `targets.json` entry"
-    fn has_other_entry_length(self, size: u64) -> bool
+    pub fn has_other_entry_length(self, size: u64) -> bool
         ensures { λ r. ⌜ r ≡ ofHeld (view self .snapshot) (λ h. otherLength (targetsEntry h) size) ⌝ }
     {
         if !self.held.snapshot {
@@ -357,7 +388,7 @@ impl State {
         names::other_length(entry, size)
     }
 
-    fn has_other_entry_digest(self, digest: &[u8]) -> bool
+    pub fn has_other_entry_digest(self, digest: &[u8]) -> bool
         ensures { λ r. ⌜ r ≡ ofHeld (view self .snapshot) (λ h. otherDigest (targetsEntry h) (now (digest .entry))) ⌝ }
     {
         if !self.held.snapshot {
@@ -367,9 +398,19 @@ impl State {
         names::other_digest(entry, digest)
     }
 
+    // not "the kept one"
+    pub fn has_other_kept(self, digest: &[u8]) -> bool
+        ensures { λ r. ⌜ r ≡ ofHeld (view self .targets) (λ h. not (same (now (digest .entry)) (h .digest))) ⌝ }
+    {
+        if !self.held.targets {
+            return false;
+        }
+        !names::same_digest(digest, self.targets.digest)
+    }
+
     // ---- Refusal 9: "too few different keys of the held root"
 
-    fn has_few_for_root(self, entries: Entries, row: &[u8]) -> bool
+    pub fn has_few_for_root(self, entries: Entries, row: &[u8]) -> bool
         ensures { λ r. ⌜ r ≡ ofHeld (view self .root) (λ h. tooFew (h .rootRole) (viewEntries entries) (now (row .entry))) ⌝ }
     {
         if !self.held.root {
@@ -378,7 +419,7 @@ impl State {
         keys::too_few(self.root.table, self.root.root, entries, row)
     }
 
-    fn has_few_for_timestamp(self, entries: Entries, row: &[u8]) -> bool
+    pub fn has_few_for_timestamp(self, entries: Entries, row: &[u8]) -> bool
         ensures { λ r. ⌜ r ≡ ofHeld (view self .root) (λ h. tooFew (h .timestampRole) (viewEntries entries) (now (row .entry))) ⌝ }
     {
         if !self.held.root {
@@ -387,7 +428,7 @@ impl State {
         keys::too_few(self.root.table, self.root.timestamp, entries, row)
     }
 
-    fn has_few_for_snapshot(self, entries: Entries, row: &[u8]) -> bool
+    pub fn has_few_for_snapshot(self, entries: Entries, row: &[u8]) -> bool
         ensures { λ r. ⌜ r ≡ ofHeld (view self .root) (λ h. tooFew (h .snapshotRole) (viewEntries entries) (now (row .entry))) ⌝ }
     {
         if !self.held.root {
@@ -396,7 +437,7 @@ impl State {
         keys::too_few(self.root.table, self.root.snapshot, entries, row)
     }
 
-    fn has_few_for_targets(self, entries: Entries, row: &[u8]) -> bool
+    pub fn has_few_for_targets(self, entries: Entries, row: &[u8]) -> bool
         ensures { λ r. ⌜ r ≡ ofHeld (view self .root) (λ h. tooFew (h .targetsRole) (viewEntries entries) (now (row .entry))) ⌝ }
     {
         if !self.held.root {
@@ -407,7 +448,7 @@ impl State {
 
     // ---- Refusals 11 to 13
 
-    fn has_other_root(self, version: u64) -> bool
+    pub fn has_other_root(self, version: u64) -> bool
         ensures { λ r. ⌜ r ≡ ofHeld (view self .root) (λ h. otherVersion version (h .version + 1)) ⌝ }
     {
         if !self.held.root {
@@ -416,7 +457,7 @@ impl State {
         is_not_next(version, self.root.version)
     }
 
-    fn has_later_timestamp(self, version: u64) -> bool
+    pub fn has_later_timestamp(self, version: u64) -> bool
         ensures { λ r. ⌜ r ≡ ofHeld (view self .timestamp) (λ h. ltb version (h .version)) ⌝ }
     {
         if !self.held.timestamp {
@@ -425,7 +466,7 @@ impl State {
         version < self.timestamp.version
     }
 
-    fn has_same_timestamp(self, version: u64) -> bool
+    pub fn has_same_timestamp(self, version: u64) -> bool
         ensures { λ r. ⌜ r ≡ ofHeld (view self .timestamp) (λ h. eqb version (h .version)) ⌝ }
     {
         if !self.held.timestamp {
@@ -434,7 +475,7 @@ impl State {
         version == self.timestamp.version
     }
 
-    fn has_later_listed(self, version: u64) -> bool
+    pub fn has_later_listed(self, version: u64) -> bool
         ensures { λ r. ⌜ r ≡ ofHeld (view self .timestamp) (λ h. ltb version (h .snapshot .version)) ⌝ }
     {
         if !self.held.timestamp {
@@ -443,7 +484,7 @@ impl State {
         version < self.timestamp.snapshot.version
     }
 
-    fn has_other_listed(self, version: u64) -> bool
+    pub fn has_other_listed(self, version: u64) -> bool
         ensures { λ r. ⌜ r ≡ ofHeld (view self .timestamp) (λ h. otherVersion version (h .snapshot .version)) ⌝ }
     {
         if !self.held.timestamp {
@@ -452,7 +493,7 @@ impl State {
         version != self.timestamp.snapshot.version
     }
 
-    fn has_other_entry(self, version: u64) -> bool
+    pub fn has_other_entry(self, version: u64) -> bool
         ensures { λ r. ⌜ r ≡ ofHeld (view self .snapshot) (λ h. otherVersion version (targetsEntry h .version)) ⌝ }
     {
         if !self.held.snapshot {
@@ -462,7 +503,7 @@ impl State {
         version != entry.version
     }
 
-    fn has_lost(self, new: Names) -> bool
+    pub fn has_lost(self, new: Names) -> bool
         ensures { λ r. ⌜ r ≡ ofHeld (view self .snapshot) (λ h. lost (h .names) (viewNames new)) ⌝ }
     {
         if !self.held.snapshot {
@@ -471,168 +512,29 @@ impl State {
         names::lost(self.snapshot.names, new)
     }
 
-    // ---- The judging of each step
+    // ---- What is told of the state
 
-    // "Timestamp (1 to 7, 9, 11 to 14): leans on root"
-    pub fn judge_timestamp(self, offered: Timestamp, entries: Entries, row: &[u8]) -> u8
-        ensures { λ r. ⌜ ((o : TimestampOffer) → o .row ≡ now (row .entry) → r ≡ first (timestampTable (view self) o (viewTimestamp offered) (viewEntries entries))) ⌝ }
+    // "a held root's public key by keyid"
+    pub fn public_key(self, keyid: Id) -> Public
+        ensures { λ r. ⌜ ((h : RootOf) → view self .root ≡ some h → Asked (keyOf (viewId keyid) (h .keys)) (r .found) (r .public)) ⌝ }
     {
-        if keys::bad_row(entries, row) {
-            return 5;
-        }
-        if self.lacks_root() {
-            return 6;
-        }
-        if self.has_past_root() {
-            return 7;
-        }
-        if self.has_few_for_timestamp(entries, row) {
-            return 9;
-        }
-        if self.has_later_timestamp(offered.version) {
-            return 11;
-        }
-        if self.has_same_timestamp(offered.version) {
-            return 12;
-        }
-        if self.has_later_listed(offered.snapshot.version) {
-            return 13;
-        }
-        if self.is_past(offered.expires) {
-            return 14;
-        }
-        0
+        keys::public_of(self.root.table, keyid)
     }
 
-    // "Root (1 to 6, 9, 10, 11): version exactly held plus one. Expiry does not matter here"
-    pub fn judge_root(self, offered: Root, entries: Entries, held: &[u8], own: &[u8]) -> u8
-        ensures { λ r. ⌜ ((o : RootOffer) → o .heldRow ≡ now (held .entry) → o .ownRow ≡ now (own .entry) → r ≡ first (rootTable (view self) o (viewRoot offered) (viewEntries entries))) ⌝ }
+    pub fn versions(self) -> Versions
+        ensures { λ r. ⌜ Tells (view self) r ⌝ }
     {
-        if keys::bad_row(entries, held) {
-            return 5;
+        let root = version_if(self.held.root, self.root.version);
+        let timestamp = version_if(self.held.timestamp, self.timestamp.version);
+        let snapshot = version_if(self.held.snapshot, self.snapshot.version);
+        let targets = version_if(self.held.targets, self.targets.version);
+        let start = self.start;
+        Versions {
+            root,
+            timestamp,
+            snapshot,
+            targets,
+            start,
         }
-        if keys::bad_row(entries, own) {
-            return 5;
-        }
-        if self.lacks_root() {
-            return 6;
-        }
-        if self.has_few_for_root(entries, held) {
-            return 9;
-        }
-        if keys::too_few(offered.table, offered.root, entries, own) {
-            return 10;
-        }
-        if self.has_other_root(offered.version) {
-            return 11;
-        }
-        0
-    }
-
-    // "Snapshot (1 to 9, 11, 13, 14): needs a timestamp, leans on root and timestamp"
-    pub fn judge_snapshot(
-        self,
-        offered: Snapshot,
-        entries: Entries,
-        row: &[u8],
-        size: u64,
-        digest: &[u8],
-    ) -> u8
-        ensures { λ r. ⌜ ((o : FileOffer) → Measured o (now (row .entry)) size (now (digest .entry)) → r ≡ first (snapshotTable (view self) o (viewSnapshot offered) (viewEntries entries))) ⌝ }
-    {
-        if keys::bad_row(entries, row) {
-            return 5;
-        }
-        if is_bad_digest(digest) {
-            return 5;
-        }
-        if self.lacks_root() {
-            return 6;
-        }
-        if self.lacks_timestamp() {
-            return 6;
-        }
-        if self.has_past_root() {
-            return 7;
-        }
-        if self.has_past_timestamp() {
-            return 7;
-        }
-        if self.has_other_length(size) {
-            return 8;
-        }
-        if self.has_other_digest(digest) {
-            return 8;
-        }
-        if self.has_few_for_snapshot(entries, row) {
-            return 9;
-        }
-        if self.has_other_listed(offered.version) {
-            return 11;
-        }
-        if self.has_lost(offered.names) {
-            return 13;
-        }
-        if self.is_past(offered.expires) {
-            return 14;
-        }
-        0
-    }
-
-    // "Targets (1 to 9, 11, 14): needs a current snapshot .. leans on root, timestamp, snapshot"; the version and the date are the file's
-    pub fn judge_targets(
-        self,
-        version: u64,
-        expires: Time,
-        entries: Entries,
-        row: &[u8],
-        size: u64,
-        digest: &[u8],
-    ) -> u8
-        ensures { λ r. ⌜ ((o : FileOffer) → Measured o (now (row .entry)) size (now (digest .entry)) → (f : File (List Image)) → Dated f version (expires .seconds) → r ≡ first (targetsTable (view self) o f (viewEntries entries))) ⌝ }
-    {
-        if keys::bad_row(entries, row) {
-            return 5;
-        }
-        if is_bad_digest(digest) {
-            return 5;
-        }
-        if self.lacks_root() {
-            return 6;
-        }
-        if self.lacks_timestamp() {
-            return 6;
-        }
-        if self.lacks_snapshot() {
-            return 6;
-        }
-        if self.has_stale_snapshot() {
-            return 6;
-        }
-        if self.has_past_root() {
-            return 7;
-        }
-        if self.has_past_timestamp() {
-            return 7;
-        }
-        if self.has_past_snapshot() {
-            return 7;
-        }
-        if self.has_other_entry_length(size) {
-            return 8;
-        }
-        if self.has_other_entry_digest(digest) {
-            return 8;
-        }
-        if self.has_few_for_targets(entries, row) {
-            return 9;
-        }
-        if self.has_other_entry(version) {
-            return 11;
-        }
-        if self.is_past(expires) {
-            return 14;
-        }
-        0
     }
 }

@@ -1,10 +1,10 @@
--- `State::judge_root`: each test passed skips a refusal, and the first that holds is the answer.
+-- `judge_root`: each test passed skips a refusal, and the first that holds is the answer.
 use Rattle.rules.specs.Steps.{rootTable}
 use Rattle.records.specs.View.{viewRoot}
-use Rattle.state.proofs.HeldLaws.{table}
+use Rattle.judge.proofs.TableLaws.{table}
 use borrow.Author.Needs.{needs}
-use Rattle.state.proofs.State.judge_root.Statement.{statement}
-use Rattle.state.proofs.State.judge_root.Tie as tie
+use Rattle.judge.proofs.judge_root.Statement.{statement}
+use Rattle.judge.proofs.judge_root.Tie as tie
 
 bad-row-requires : tie.Need-bad-row-requires
 bad-row-requires c κs = search needs

@@ -1,8 +1,8 @@
 -- `is_bad_digest`: a digest has 32 bytes.
 use mathlib.Core.Path.{refl}
 use Rattle.rules.specs.Conditions.{badDigest}
-use Rattle.state.proofs.is_bad_digest.Statement.{statement}
-use Rattle.state.proofs.is_bad_digest.Tie as tie
+use Rattle.judge.proofs.is_bad_digest.Statement.{statement}
+use Rattle.judge.proofs.is_bad_digest.Tie as tie
 
 returns : tie.Need-returns
 unfolding badDigest

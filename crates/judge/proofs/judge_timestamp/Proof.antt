@@ -1,11 +1,11 @@
--- `State::judge_timestamp`: each test passed skips a refusal, and the first that holds is the answer.
+-- `judge_timestamp`: each test passed skips a refusal, and the first that holds is the answer.
 use Rattle.rules.specs.Table.{first}
 use Rattle.rules.specs.Steps.{timestampTable}
 use Rattle.records.specs.View.{viewTimestamp, viewListed}
-use Rattle.state.proofs.HeldLaws.{table}
+use Rattle.judge.proofs.TableLaws.{table}
 use borrow.Author.Needs.{needs}
-use Rattle.state.proofs.State.judge_timestamp.Statement.{statement}
-use Rattle.state.proofs.State.judge_timestamp.Tie as tie
+use Rattle.judge.proofs.judge_timestamp.Statement.{statement}
+use Rattle.judge.proofs.judge_timestamp.Tie as tie
 
 bad-row-requires : tie.Need-bad-row-requires
 bad-row-requires c κs = search needs
