@@ -1,0 +1,5 @@
+pub mod StepLaws
+pub mod TargetsLaws
+pub mod DigestLaws
+pub mod KeyLaws
+pub mod Library

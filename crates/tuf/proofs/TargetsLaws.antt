@@ -1,0 +1,116 @@
+-- A targets file that was read: the file that it is, by what was looked at in it.
+use mathlib.Core.Path.{_≡_, refl, sym, ap, _∙_}
+use mathlib.Core.Option.{Option, none, some, bind}
+use mathlib.Core.List.{List}
+use mathlib.Core.Bool.{Bool, true, false, not}
+use Prim.Native.Nat.{ℕ}
+use lib.IntN.{ℤ}
+use borrow.Author.Tests.{ne-eqb}
+use Rattle.base.specs.Bytes.{Bytes}
+use Rattle.base.proofs.TestLaws.{never}
+use Rattle.json.specs.Fields.{keep}
+use Rattle.rules.specs.Records.{Image, File, Fault, Read, refused, says}
+use Rattle.rules.specs.State as rules
+use Rattle.rules.specs.State.{keepTargets, kept, targetsIn, FileOffer, Query, find}
+use Rattle.rules.specs.Table.{Refusal, first, absent}
+use Rattle.rules.specs.Conditions.{badDigest, imageOf}
+use Rattle.rules.specs.Steps.{targetsTable, findTable, faultNumber, judged, answer, refuses, withTargets, aTargets, trusting}
+use Rattle.rules.specs.Asked.{Found, theImage, inTargets, found}
+use Rattle.rules.proofs.OptionLaws.{none-not-some, some-is}
+use Rattle.rules.proofs.ReadingLaws.{kept-says}
+use Rattle.rules.proofs.TableLaws.{judged-is, no-line}
+use Rattle.answers.specs.Number.{numberOf}
+use Rattle.answers.proofs.MostLaws.{answer-most, named}
+use Rattle.records.specs.View.{viewId, viewEntries}
+use Rattle.records.specs.declared.Id.{Id}
+use Rattle.judge.specs.Offer.{Dated}
+use Rattle.envelope.proofs.ReadLaws.{read-says, read-refused}
+use Rattle.targets_file.specs.View.{listedImage, Seen, seen, viewTargetsRead}
+use Rattle.targets_file.specs.declared.TargetsRead.{TargetsRead}
+use Rattle.tuf.specs.View.{view, viewImage}
+use Rattle.tuf.specs.Promises.{FindsImage, NoImage}
+use Rattle.tuf.specs.declared.State.{State}
+use Rattle.tuf.specs.declared.Image as tuf
+
+-- the length and digest that were read, where the path is listed
+abbrev imageRead : TargetsRead → Option Found
+imageRead t = keep (t .listed) (record { length = t .length; digest = viewId (t .digest) })
+
+-- the file that was read
+pub record FileRead (path file : Bytes) (t : TargetsRead) : Type 0 where
+  pub targets : File (List Image)
+  pub said : targetsIn file ≡ says targets (viewEntries (t .entries))
+  pub dated : Dated targets (t .version) (t .expires .seconds)
+  pub image : listedImage path (targets .body) ≡ imageRead t
+
+module _ (path file : Bytes) (t : TargetsRead) (w : viewTargetsRead t ≡ some (kept (seen path) (targetsIn file))) where
+  pub targets-unread : ¬ (t .answer ≡ 0) → (table : File (List Image) → List Bytes → List Refusal) → judged (targetsIn file) table ≡ t .answer
+  unfolding viewTargetsRead kept judged
+  targets-unread x table = let d = read-refused _ _ _ _ w x in go (targetsIn file) (d .1) (d .2)
+    where
+      go : {f : Fault} (rd : Read (File (List Image))) → kept (seen path) rd ≡ refused f → faultNumber f ≡ t .answer → judged rd table ≡ t .answer
+      go {f} (refused g) p q = let e : g ≡ f = cc in rw e q
+      go (says g es) p q = never cc
+
+  pub targets-read : t .answer ≡ 0 → FileRead path file t
+  unfolding viewTargetsRead seen
+  targets-read z =
+      let d = kept-says (seen path) (targetsIn file) _ _ (read-says _ _ _ _ w z) in
+      record {
+        targets = d .0;
+        said = d .1;
+        dated = record { version-is = ap (λ (x : Seen). x .version) (d .2); expires-is = ap (λ (x : Seen). x .expires) (d .2) };
+        image = ap (λ (x : Seen). x .image) (d .2);
+      }
+
+-- ## What is kept of the file
+
+pub targets-after : (s : rules.State) (o : FileOffer) (g : File (List Image)) (es : List Bytes) (version : ℕ) (expires : ℤ) (id : Id)
+    → first (targetsTable s o g es) ≡ 0 → Dated g version expires → (badDigest (o .digest) ≡ false → viewId id ≡ o .digest)
+    → withTargets s (record { version = version; expires = expires; digest = viewId id }) ≡ trusting s (aTargets (keepTargets g (o .digest)))
+unfolding trusting keepTargets targetsTable
+targets-after s o g es version expires id z d f =
+    let e = f (no-line (targetsTable s o g es) refl z 5 1) in
+    rw (d .version-is, d .expires-is, e) refl
+
+-- ## Find
+
+module _ (path : Bytes) (is : List Image) (listed : Bool) (x : Found) (e : listedImage path is ≡ keep listed x) where
+  pub image-listed : listed ≡ not (absent (imageOf path is))
+  unfolding listedImage keep bind
+  image-listed = go (imageOf path is) listed e
+    where
+      go : (o : Option Image) (b : Bool) → bind o (λ i. some (record { length = i .length; digest = i .digest })) ≡ keep b x → b ≡ not (absent o)
+      go none false e = refl
+      go none true e = none-not-some e
+      go (some i) false e = none-not-some (sym e)
+      go (some i) true e = refl
+
+  pub image-is : absent (imageOf path is) ≡ false → x ≡ theImage (imageOf path is)
+  unfolding listedImage keep bind theImage
+  image-is h = go (imageOf path is) listed e h
+    where
+      go : (o : Option Image) (b : Bool) → bind o (λ i. some (record { length = i .length; digest = i .digest })) ≡ keep b x → absent o ≡ false → x ≡ theImage o
+      go none b e h = never h
+      go (some i) false e h = none-not-some (sym e)
+      go (some i) true e h = sym (some-is e)
+
+module _ (self : State) (q : Query) (r : tuf.Image) where
+  pub find-refused : (n : ℕ) → answer (view self) (find q) ≡ n → ¬ (n ≡ 0) → NoImage n r → FindsImage self q r
+  unfolding found refuses
+  find-refused n e x w =
+      record {
+        answered = named (w .answer) (sym e) (answer-most (view self) (find q));
+        gives = w .zeros ∙ rw (e, ne-eqb n 0 x) refl;
+      }
+
+  pub find-found : (g : File (List Image)) (es : List Bytes) → targetsIn (q .file) ≡ says g es → first (findTable (view self) q g es) ≡ 0 → numberOf (r .answer) ≡ 0
+      → (listed : Bool) → listedImage (q .path) (g .body) ≡ keep listed (viewImage r) → FindsImage self q r
+  unfolding answer found refuses inTargets findTable
+  find-found g es y z a listed e =
+      let n : judged (targetsIn (q .file)) (findTable (view self) q) ≡ 0 = judged-is (findTable (view self) q) y ∙ z in
+      let there : absent (imageOf (q .path) (g .body)) ≡ false = no-line (findTable (view self) q g es) refl z 15 2 in
+      record {
+        answered = a ∙ sym n;
+        gives = image-is (q .path) (g .body) listed (viewImage r) e there ∙ rw (n, y) refl;
+      }
