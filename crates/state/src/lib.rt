@@ -16,13 +16,12 @@ use records::Targets;
 use records::Timestamp;
 ghost use mathlib.Core.Path.{_≡_};
 ghost use mathlib.Core.Bool.{not, _&&_};
-ghost use mathlib.Core.Option.{some};
 ghost use Prim.Native.Nat.{_+_};
 ghost use lib.Dec.{ltb, eqb};
 ghost use Rattle.base.specs.Bytes.{same};
 ghost use Rattle.json.specs.Fields.{keep};
 ghost use Rattle.date.specs.Calendar.{expired as expiredAt};
-ghost use Rattle.rules.specs.State.{Root as RootOf, blank as blankState};
+ghost use Rattle.rules.specs.State.{blank as blankState};
 ghost use Rattle.rules.specs.Table.{ofHeld, absent};
 ghost use Rattle.rules.specs.Conditions.{rotates, rotatesTargets, tooFew, otherVersion, otherLength, otherDigest, lost, staleSnapshot, staleTargets, targetsEntry, keyOf};
 ghost use Rattle.rules.specs.Steps.{withStart, withRoot, withTimestamp, withSnapshot, withTargets, rootAlone};
@@ -514,9 +513,9 @@ impl State {
 
     // ---- What is told of the state
 
-    // "a held root's public key by keyid"
+    // "a held root's public key by keyid": the stored root is asked, held or not
     pub fn public_key(self, keyid: Id) -> Public
-        ensures { λ r. ⌜ ((h : RootOf) → view self .root ≡ some h → Asked (keyOf (viewId keyid) (h .keys)) (r .found) (r .public)) ⌝ }
+        ensures { λ r. ⌜ Asked (keyOf (viewId keyid) (viewRoot (self .root) .keys)) (r .found) (r .public) ⌝ }
     {
         keys::public_of(self.root.table, keyid)
     }

@@ -19,18 +19,19 @@ use Rattle.rules.specs.Conditions.{keyOf}
 use Rattle.rules.specs.Steps.{keyTable, answer}
 use Rattle.rules.specs.Exactly.{KeyGood}
 use Rattle.rules.specs.Asked.{publicOf}
-use Rattle.rules.proofs.OptionLaws.{not-absent, some-is}
+use Rattle.rules.proofs.OptionLaws.{not-absent, some-is, kept-is}
 use Rattle.rules.proofs.ExactlyLaws.{good-key, key-given, no-key}
 use Rattle.answers.specs.Number.{numberOf}
 use Rattle.answers.specs.declared.Answer.{Answer}
 use Rattle.answers.specs.declared.Answer.the-variants.{Accepted, NotHeld, NotListed}
-use Rattle.records.specs.View.{viewId}
+use Rattle.records.specs.View.{viewId, viewRoot}
 use Rattle.records.specs.declared.Id.{Id}
 use Rattle.keys.specs.Signers.{Asked}
 use Rattle.judge.proofs.TableLaws.{hit, skip}
 use Rattle.judge.proofs.PathLaws.{not-listed}
 use Rattle.forms.specs.View.{Fills}
 use Rattle.forms.proofs.TextLaws.{unhex-is}
+use Rattle.state.specs.View as state
 use Rattle.tuf.specs.View.{view}
 use Rattle.tuf.specs.Promises.{NoKey, GivesKey}
 use Rattle.tuf.specs.declared.State.{State}
@@ -43,6 +44,12 @@ unfolding unhex keep
 undone-window n k zeros out z h u =
     let f : Fills k k true k = record { fits = sym (eq-eqb (length k) (length k) refl); is = refl } in
     some-is (unhex-is n k k k true (hex-parts n k h .0) f refl zeros out true z u ∙ rw h)
+
+-- the key table of a root that is held is that of the stored one
+pub held-keys : (s : State) (k : Bytes) (found : Bool) (public : Id) → Asked (keyOf k (viewRoot (s .trusted .root) .keys)) found public
+    → (o : Root) → view s .root ≡ some o → Asked (keyOf k (o .keys)) found public
+unfolding view state.view
+held-keys s k found public w o e = subst (λ (h : Root). Asked (keyOf k (h .keys)) found public) (kept-is _ _ e .1) w
 
 module _ (self : State) (k : Bytes) (r : PublicKey) where
   -- a refusal, by its line of the table

@@ -21,6 +21,8 @@ use records::Id;
 use records::Targets;
 use state::Versions;
 
+// ---- The state, and what the calls give back
+
 pub struct State {
     trusted: state::State,
 }
@@ -44,56 +46,7 @@ pub struct PublicKey {
     pub public: Id,
 }
 
-fn wide(n: usize) -> u64
-    ensures { λ r. ⌜ r ≡ n ⌝ }
-{
-    n as u64
-}
-
-fn accepted(trusted: state::State) -> Step
-    ensures { λ r. ⌜ Accepts trusted r ⌝ }
-{
-    Step {
-        answer: Answer::Accepted,
-        state: State { trusted },
-    }
-}
-
-fn no_image(number: u8) -> Image
-    ensures { λ r. ⌜ NoImage number r ⌝ }
-{
-    let answer = answers::numbered(number);
-    Image {
-        answer,
-        length: 0,
-        digest: Id { bytes: [0u8; 32] },
-    }
-}
-
-fn no_key(answer: Answer) -> PublicKey
-    ensures { λ r. ⌜ NoKey answer r ⌝ }
-{
-    PublicKey {
-        answer,
-        public: Id { bytes: [0u8; 32] },
-    }
-}
-
-// A digest that was judged: of another number of bytes than 32 it gives zeros.
-fn id_of(digest: &[u8]) -> Id
-    ensures { λ r. ⌜ (badDigest (now (digest .entry)) ≡ false → viewId r ≡ now (digest .entry)) ⌝ }
-{
-    let mut bytes = [0u8; 32];
-    if judge::is_bad_digest(digest) {
-        return Id { bytes };
-    }
-    let mut i: usize = 0;
-    while i < records::DIGEST {
-        bytes[i] = digest[i];
-        i += 1;
-    }
-    Id { bytes }
-}
+// ---- The calls, in the order of 01's steps
 
 impl State {
     // "the blank state, which holds no record and has the lowest signed 64-bit count as its start time"
@@ -102,16 +55,6 @@ impl State {
     {
         let trusted = state::State::blank();
         State { trusted }
-    }
-
-    fn refused(self, number: u8) -> Step
-        ensures { λ r. ⌜ Refuses self number r ⌝ }
-    {
-        let answer = answers::numbered(number);
-        Step {
-            answer,
-            state: self,
-        }
     }
 
     // "Install (1 to 5, 10)": "a refused one returns the blank state"
@@ -269,6 +212,17 @@ impl State {
     {
         self.trusted.versions()
     }
+
+    // "A refusal returns the state it was given"
+    fn refused(self, number: u8) -> Step
+        ensures { λ r. ⌜ Refuses self number r ⌝ }
+    {
+        let answer = answers::numbered(number);
+        Step {
+            answer,
+            state: self,
+        }
+    }
 }
 
 // "Image (5, 8): the found length and digest against the fetched ones"
@@ -312,4 +266,57 @@ pub fn entry(file: &[u8], place: usize) -> EntryRead
     ensures { λ r. ⌜ viewEntryRead r ≡ entryAt (now (file .entry)) place ⌝ }
 {
     inspect::entry(file, place)
+}
+
+// ---- Parts of the calls
+
+fn wide(n: usize) -> u64
+    ensures { λ r. ⌜ r ≡ n ⌝ }
+{
+    n as u64
+}
+
+fn accepted(trusted: state::State) -> Step
+    ensures { λ r. ⌜ Accepts trusted r ⌝ }
+{
+    Step {
+        answer: Answer::Accepted,
+        state: State { trusted },
+    }
+}
+
+fn no_image(number: u8) -> Image
+    ensures { λ r. ⌜ NoImage number r ⌝ }
+{
+    let answer = answers::numbered(number);
+    Image {
+        answer,
+        length: 0,
+        digest: Id { bytes: [0u8; 32] },
+    }
+}
+
+fn no_key(answer: Answer) -> PublicKey
+    ensures { λ r. ⌜ NoKey answer r ⌝ }
+{
+    PublicKey {
+        answer,
+        public: Id { bytes: [0u8; 32] },
+    }
+}
+
+// A digest that was judged: of another number of bytes than 32 it gives zeros.
+fn id_of(digest: &[u8]) -> Id
+    ensures { λ r. ⌜ (badDigest (now (digest .entry)) ≡ false → viewId r ≡ now (digest .entry)) ⌝ }
+{
+    let mut bytes = [0u8; 32];
+    if judge::is_bad_digest(digest) {
+        return Id { bytes };
+    }
+    let mut i: usize = 0;
+    while i < records::DIGEST {
+        bytes[i] = digest[i];
+        i += 1;
+    }
+    Id { bytes }
 }

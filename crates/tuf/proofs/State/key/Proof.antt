@@ -4,7 +4,7 @@ use borrow.Author.Needs.{needs}
 use borrow.Author.Tests.{not-true, not-false}
 use Rattle.records.specs.View.{viewId}
 use Rattle.tuf.specs.View.{view}
-use Rattle.tuf.proofs.KeyLaws.{key-not-held, key-not-hex, key-unknown, key-known}
+use Rattle.tuf.proofs.KeyLaws.{held-keys, key-not-held, key-not-hex, key-unknown, key-known}
 use Rattle.tuf.proofs.State.key.Statement.{statement}
 use Rattle.tuf.proofs.State.key.Tie as tie
 
@@ -43,7 +43,7 @@ returns-3 c =
     let p = c .before .before .before in
     let b = p .before .before .before .before in
     key-unknown _ _ (c .no-key3 .result) _ (b .before .before .lacks-root .ensures) (b .before .if1 .left) _ _ _ refl (b .hex32 .ensures)
-    (not-false _ (p .before .before .if2 .left)) _ (p .public-key .result .public) (p .public-key .ensures)
+    (not-false _ (p .before .before .if2 .left)) _ (p .public-key .result .public) (held-keys _ _ _ (p .public-key .result .public) (p .public-key .ensures))
     (not-true _ (c .before .if3 .taken)) (c .no-key3 .ensures)
 
 returns-4 : tie.Need-returns-4
@@ -52,7 +52,7 @@ returns-4 c =
     let p = c .before .before .before in
     let b = p .before .before .before .before in
     key-known _ _ _ _ (b .before .before .lacks-root .ensures) (b .before .if1 .left) _ _ _ refl (b .hex32 .ensures)
-    (not-false _ (p .before .before .if2 .left)) _ (p .public-key .result .public) (p .public-key .ensures)
+    (not-false _ (p .before .before .if2 .left)) _ (p .public-key .result .public) (held-keys _ _ _ (p .public-key .result .public) (p .public-key .ensures))
     (not-false _ (c .before .if3 .left)) refl refl
 
 pub key-spec : {M : Type 1} → statement M
