@@ -1,7 +1,8 @@
 -- `read_on`: what is left of the line is a front part of the buffer.
-use native.Mathlib.Omega.{arith}
-use lib.ListN.{length-take, length-drop}
 use borrow.Author.Needs.{needs}
+use Prim.Native.Nat.{_-_}
+use native.Mathlib.Omega.{arith}
+use lib.ListN.{length-take}
 use Rattle.replay.proofs.read_on.Statement.{statement}
 use Rattle.replay.proofs.read_on.Tie as tie
 
@@ -23,8 +24,8 @@ shift-requires c κs = search needs
 fill-requires : tie.Need-fill-requires
 fill-requires c κs = search needs
 
-add-t14 : tie.Need-add-t14
-add-t14 c = search needs
+add-t15 : tie.Need-add-t15
+add-t15 c = search needs
 
 same-length : tie.Need-same-length
 same-length c = search needs
@@ -36,7 +37,7 @@ slice-reshare-prefix-play-unless : tie.Need-slice-reshare-prefix-play-unless
 slice-reshare-prefix-play-unless c = search needs
 
 slice-aggregate-play-unless : tie.Need-slice-aggregate-play-unless
-slice-aggregate-play-unless c = simp (length-take, length-drop) (omega arith)
+slice-aggregate-play-unless c = simp length-take (omega arith)
 
 play-unless-requires : tie.Need-play-unless-requires
 play-unless-requires c κs = search needs
@@ -63,7 +64,7 @@ read-on-spec =
     returns-2
     shift-requires
     fill-requires
-    add-t14
+    add-t15
     same-length
     returns-3
     slice-reshare-prefix-play-unless

@@ -1,5 +1,6 @@
 -- `run`: both buffers keep their lengths; the turns fall.
 use mathlib.Core.Path.{_≡_}
+use Prim.Native.Nat.{_-_}
 use lib.ListN.{length}
 use borrow.Author.Needs.{needs}
 use Rattle.replay.proofs.run.Statement.{statement}
@@ -10,6 +11,12 @@ Inv-loop buf₀ bytes₀ p₀ turns₀ buf bytes p turns = (length buf ≡ lengt
 
 abbrev μ-loop : tie.MeasureT-loop
 μ-loop buf₀ bytes₀ p₀ turns₀ buf bytes p turns = turns
+
+blank-requires : tie.Need-blank-requires Inv-loop μ-loop
+blank-requires c κs = search needs
+
+at-the-start-requires : tie.Need-at-the-start-requires Inv-loop μ-loop
+at-the-start-requires c κs = search needs
 
 loop-holds : tie.Need-loop-holds Inv-loop μ-loop
 loop-holds c = search needs
@@ -50,6 +57,8 @@ run-spec =
     (tie.spec
     Inv-loop
     μ-loop
+    blank-requires
+    at-the-start-requires
     loop-holds
     turn-requires
     same-length
