@@ -6,6 +6,7 @@
 //! (broken UTF-8, control bytes, other escapes, fractions, a ninth level) the reader refuses at once.
 
 use std::collections::BTreeMap;
+use std::ops::RangeInclusive;
 
 /// "to depth 8; the outermost counts 1. Depth 9 is refused."
 const DEEPEST: usize = 8;
@@ -25,8 +26,11 @@ pub enum Value {
     Array(Vec<Value>),
     /// The members. The map orders names as the document does: "byte by byte after the escapes are undone, a shorter
     /// prefix first".
-    Object(BTreeMap<String, Value>),
+    Object(Object),
 }
+
+/// The members of an object by name.
+pub type Object = BTreeMap<String, Value>;
 
 /// A whole number in its one canonical spelling: "0, or an optional minus and digits that do not begin with 0".
 #[derive(Clone, Debug, PartialEq, Eq)]
@@ -48,6 +52,20 @@ impl Number {
                 digits: digits.to_string(),
             },
         }
+    }
+
+    /// The number, if it is in the range. One with more digits than the range has room for is not.
+    pub fn within(&self, range: RangeInclusive<u64>) -> Option<u64> {
+        if self.negative {
+            return None;
+        }
+        self.digits.parse().ok().filter(|number| range.contains(number))
+    }
+}
+
+impl From<u64> for Number {
+    fn from(number: u64) -> Number {
+        Number::new(false, &number.to_string())
     }
 }
 
@@ -83,6 +101,46 @@ fn first_difference(left: &[u8], right: &[u8]) -> Option<usize> {
 }
 
 impl Value {
+    /// The members, if it is an object.
+    pub fn object(&self) -> Option<&Object> {
+        match self {
+            Value::Object(members) => Some(members),
+            _ => None,
+        }
+    }
+
+    /// The items, if it is an array.
+    pub fn array(&self) -> Option<&[Value]> {
+        match self {
+            Value::Array(items) => Some(items),
+            _ => None,
+        }
+    }
+
+    /// The string, its escapes undone, if it is one.
+    pub fn string(&self) -> Option<&str> {
+        match self {
+            Value::String(string) => Some(string),
+            _ => None,
+        }
+    }
+
+    /// The truth value, if it is one.
+    pub fn truth(&self) -> Option<bool> {
+        match self {
+            Value::Bool(truth) => Some(*truth),
+            _ => None,
+        }
+    }
+
+    /// The number, if it is one in the range.
+    pub fn within(&self, range: RangeInclusive<u64>) -> Option<u64> {
+        match self {
+            Value::Number(number) => number.within(range),
+            _ => None,
+        }
+    }
+
     /// The canonical text of the value.
     pub fn written(&self) -> String {
         let mut text = String::new();
@@ -134,7 +192,7 @@ fn write_array(items: &[Value], text: &mut String) {
 }
 
 /// "Member names rise strictly": the map gives them in that order, each once.
-fn write_object(members: &BTreeMap<String, Value>, text: &mut String) {
+fn write_object(members: &Object, text: &mut String) {
     text.push('{');
     for (place, (name, value)) in members.iter().enumerate() {
         if place > 0 {
@@ -151,7 +209,7 @@ fn write_object(members: &BTreeMap<String, Value>, text: &mut String) {
 enum Open {
     Array(Vec<Value>),
     /// The members so far, and the name whose value comes next.
-    Object(BTreeMap<String, Value>, String),
+    Object(Object, String),
 }
 
 /// What stands where a value may begin.
@@ -530,6 +588,28 @@ mod tests {
         ] {
             assert!(!is_canonical(&format!("{{{names}}}")), "{names}");
         }
+    }
+
+    #[test]
+    fn numbers_within_a_range() {
+        let within = |text: &str, range| parse(text.as_bytes()).unwrap().within(range);
+        assert_eq!(within("1", 1..=5), Some(1));
+        assert_eq!(within("5", 1..=5), Some(5));
+        assert_eq!(within("18446744073709551615", 0..=u64::MAX), Some(u64::MAX));
+        for text in [
+            "0",
+            "6",
+            "-1",
+            "-5",
+            "18446744073709551617",
+            "36893488147419103235",
+            "\"1\"",
+            "true",
+            "[1]",
+        ] {
+            assert_eq!(within(text, 1..=5), None, "{text}");
+        }
+        assert_eq!(within(&"9".repeat(1_000), 0..=u64::MAX), None);
     }
 
     #[test]

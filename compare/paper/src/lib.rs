@@ -2,11 +2,22 @@
 //!
 //! This crate was written from the document alone. It shares no code, table or constant with the library it is
 //! compared with, and where there was a choice it takes another road: text is read generously, written again in
-//! canonical form and compared; dates are counted off in a table instead of being calculated.
+//! canonical form and compared; dates are counted off in a table instead of being calculated; forms are read from a
+//! tree of values into maps and sets; of the refusals all conditions are looked at before the lowest is said.
 //!
 //! Words in quotation marks in the comments are the document's own.
 
 pub mod date;
+pub mod envelope;
 pub mod file;
+pub mod forms;
+pub mod hex;
 pub mod json;
 pub mod refusal;
+pub mod script;
+pub mod state;
+
+#[cfg(test)]
+mod cases;
+#[cfg(test)]
+mod shelf;

@@ -3,13 +3,12 @@
 use std::collections::BTreeMap;
 use std::fmt;
 use std::io::Write;
-use std::path::Path;
 use std::sync::mpsc::{Receiver, Sender, channel};
 use std::thread;
-use std::time::Duration;
 
-use crate::calls::{Call, Player, kind_of};
+use crate::calls::{ANSWERS, Call, Line, Player, is_listed, kind_of};
 use crate::child::{Answer, Replay};
+use crate::options::Options;
 
 /// The script goes out in batches of about this many bytes.
 const BATCH: usize = 1 << 16;
@@ -20,23 +19,45 @@ const SHOWN: usize = 10;
 /// One input.
 #[derive(Debug)]
 pub struct Case {
-    call: Call,
+    line: Line,
     stated: Option<String>,
+    /// Paper's answer, if it was asked already when the input was made.
+    paper: Option<String>,
 }
 
 impl Case {
     /// An input on which paper has the only word.
-    pub fn open(call: Call) -> Case {
-        Case { call, stated: None }
+    pub fn open(line: impl Into<Line>) -> Case {
+        Case {
+            line: line.into(),
+            stated: None,
+            paper: None,
+        }
     }
 
     /// An input whose answer is known from elsewhere too: because document 01 states it, or by the way the input was
-    /// made. Then paper and replay both have to give it.
-    pub fn stated(call: Call, answer: impl Into<String>) -> Case {
+    /// made. Then paper and replay both have to give it. Where a step is only said to answer a number, the versions
+    /// held need not be written.
+    pub fn stated(line: impl Into<Line>, answer: impl Into<String>) -> Case {
         Case {
-            call,
             stated: Some(answer.into()),
+            ..Case::open(line)
         }
+    }
+
+    /// The input with paper's answer.
+    pub fn answered(self, paper: String) -> Case {
+        Case {
+            paper: Some(paper),
+            ..self
+        }
+    }
+
+    /// The line of the script.
+    pub fn line(&self) -> String {
+        let mut line = Vec::new();
+        self.line.write(&mut line);
+        String::from_utf8_lossy(&line).into_owned()
     }
 }
 
@@ -47,12 +68,16 @@ pub type Cases = Box<dyn Iterator<Item = Case> + Send>;
 pub struct Group {
     /// The name in the report.
     pub name: &'static str,
+    /// The calls in its script; it is compared only where all of them are.
+    pub calls: &'static [&'static str],
     /// Makes the inputs from a seed.
     pub cases: fn(u64) -> Cases,
     /// Fewer inputs than this are a failure.
     pub least: usize,
     /// Kinds of answers, and the share in percent that each must have at least.
     pub shares: &'static [(&'static str, usize)],
+    /// Calls of which every answer that document 01 lists must occur.
+    pub complete: &'static [&'static str],
     /// Whether a fresh seed gives enough fresh inputs to run the group again.
     pub renewed: bool,
 }
@@ -62,6 +87,8 @@ pub struct Group {
 pub struct Report {
     inputs: usize,
     kinds: BTreeMap<String, usize>,
+    /// The input with which the present history began.
+    begun: Option<usize>,
     failures: usize,
     shown: Vec<String>,
 }
@@ -85,6 +112,9 @@ impl Report {
 
     fn count(&mut self, question: &Question) {
         self.inputs += 1;
+        if let Line::Call(Call::Install { .. }) = question.case.line {
+            self.begun = Some(self.inputs);
+        }
         let kind = kind_of(&question.paper);
         match self.kinds.get_mut(kind) {
             Some(count) => *count += 1,
@@ -98,11 +128,12 @@ impl Report {
         }
         self.failures += 1;
         if self.failures <= SHOWN {
-            self.shown.push(question.shown_with(self.inputs, answer));
+            self.shown.push(question.shown_with(self, answer));
         }
     }
 
-    /// A group with too few inputs, or with too few of one kind, shows nothing: that is a failure too.
+    /// A group with too few inputs, or with too few of one kind, shows nothing: that is a failure too. So is an answer
+    /// that the call does not have.
     fn check_coverage(&mut self, group: &Group) {
         if self.inputs < group.least {
             self.fail(format!("only {} inputs, {} needed", self.inputs, group.least));
@@ -115,6 +146,18 @@ impl Report {
                     self.inputs
                 ));
             }
+        }
+        for (call, numbers) in ANSWERS.iter().filter(|(call, _)| group.complete.contains(call)) {
+            for number in *numbers {
+                let kind = format!("{call} {number}");
+                if !self.kinds.contains_key(&kind) {
+                    self.fail(format!("'{kind}' never occurs"));
+                }
+            }
+        }
+        let strange: Vec<String> = self.kinds.keys().filter(|kind| !is_listed(kind)).cloned().collect();
+        for kind in strange {
+            self.fail(format!("'{kind}' is no answer that document 01 lists for the call"));
         }
     }
 }
@@ -140,21 +183,33 @@ struct Question {
 }
 
 impl Question {
+    /// Whether replay's answer, paper's and what is stated are the same. The reason of an error is free.
     fn agrees(&self, answer: &str) -> bool {
-        answer == self.paper && self.case.stated.as_ref().is_none_or(|stated| *stated == self.paper)
+        let same = match error_number(&self.paper) {
+            Some(number) => error_number(answer) == Some(number),
+            None => answer == self.paper,
+        };
+        same && self.case.stated.as_ref().is_none_or(|stated| self.says(stated))
     }
 
-    fn line(&self) -> String {
-        let mut line = Vec::new();
-        self.case.call.write(&mut line);
-        String::from_utf8_lossy(&line).into_owned()
+    /// Whether paper's answer is the one stated, or begins with it where no more than the number is stated.
+    fn says(&self, stated: &str) -> bool {
+        match self.paper.strip_prefix(stated) {
+            Some(rest) => rest.is_empty() || rest.starts_with(' '),
+            None => false,
+        }
     }
 
-    fn shown_with(&self, number: usize, answer: &str) -> String {
+    fn shown_with(&self, report: &Report, answer: &str) -> String {
+        let since = match report.begun {
+            Some(begun) => format!(" (since input {begun})"),
+            None => String::new(),
+        };
         let mut shown = format!(
-            "input {number}: {}\n    script: {}\n    replay: {answer}\n    paper:  {}",
-            self.case.call.explained(),
-            self.line(),
+            "input {}{since}: {}\n    script: {}\n    replay: {answer}\n    paper:  {}",
+            report.inputs,
+            self.case.line.explained(),
+            self.case.line(),
             self.paper
         );
         if let Some(stated) = &self.case.stated {
@@ -165,16 +220,22 @@ impl Question {
     }
 }
 
+/// The line number in `error LINE-NUMBER REASON`.
+fn error_number(answer: &str) -> Option<&str> {
+    let (number, reason) = answer.strip_prefix("error ")?.split_once(' ')?;
+    (!reason.is_empty()).then_some(number)
+}
+
 /// Runs one group with one seed. An error means that replay could not be started.
-pub fn run(group: &Group, seed: u64, program: &Path, patience: Duration) -> Result<Report, String> {
-    let mut replay = Replay::start(program, patience)?;
+pub fn run(group: &Group, seed: u64, options: &Options) -> Result<Report, String> {
+    let mut replay = Replay::start(&options.replay, options.patience)?;
     let script = replay.script();
     let cases = (group.cases)(seed);
     let mut report = Report::default();
     let (send, questions) = channel();
     thread::scope(|scope| {
         scope.spawn(move || ask(cases, script, send));
-        listen(replay, questions, &mut report);
+        listen(replay, questions, &mut report, options);
     });
     if report.passed() {
         report.check_coverage(group);
@@ -195,11 +256,12 @@ fn ask(cases: Cases, mut script: impl Write, send: Sender<Vec<Question>>) {
         lines.clear();
         written
     };
-    for case in cases {
-        case.call.write(&mut lines);
+    for mut case in cases {
+        case.line.write(&mut lines);
         lines.push(b'\n');
-        let paper = player.answer(&case.call);
-        questions.push(Question { case, paper });
+        if let Some(paper) = case.paper.take().or_else(|| player.answer(&case.line)) {
+            questions.push(Question { case, paper });
+        }
         // If replay or the listener has gone, the listener knows why.
         if lines.len() >= BATCH && !hand_on(&mut lines, &mut questions) {
             return;
@@ -209,22 +271,40 @@ fn ask(cases: Cases, mut script: impl Write, send: Sender<Vec<Question>>) {
 }
 
 /// Compares the answers as they come.
-fn listen(mut replay: Replay, questions: Receiver<Vec<Question>>, report: &mut Report) {
+fn listen(mut replay: Replay, questions: Receiver<Vec<Question>>, report: &mut Report, options: &Options) {
     for question in questions.into_iter().flatten() {
         report.count(&question);
-        match replay.answer() {
+        match answer_to(&question, &mut replay) {
             Answer::Line(answer) => report.compare(&question, &answer),
             Answer::End => {
                 let status = replay.stop();
-                return report.fail(question.shown_with(report.inputs, &format!("has ended ({status})")));
+                return report.fail(question.shown_with(report, &format!("has ended ({status})")));
             }
             Answer::Silence => {
                 replay.stop();
-                return report.fail(question.shown_with(report.inputs, "no answer in time"));
+                return report.fail(question.shown_with(report, "no answer in time"));
             }
+        }
+        if options.first && !report.passed() {
+            replay.stop();
+            return;
         }
     }
     listen_for_the_end(replay, report);
+}
+
+/// The line that answers a question. What `state` writes for people before its last line is free.
+fn answer_to(question: &Question, replay: &mut Replay) -> Answer {
+    loop {
+        match replay.answer() {
+            Answer::Line(line) if kind_of(&question.paper) == "state" && !is_last_of_state(&line) => continue,
+            answer => return answer,
+        }
+    }
+}
+
+fn is_last_of_state(line: &str) -> bool {
+    line.starts_with("state root=") || line.starts_with("error ")
 }
 
 /// After the last answer nothing more may come, and replay has to end well.
@@ -254,9 +334,11 @@ mod tests {
     fn group(least: usize, shares: &'static [(&'static str, usize)]) -> Group {
         Group {
             name: "tried",
+            calls: &[],
             cases: |_| Box::new(std::iter::empty()),
             least,
             shares,
+            complete: &[],
             renewed: false,
         }
     }
@@ -300,8 +382,8 @@ mod tests {
     fn replay_paper_and_what_is_stated_must_agree() {
         let question = |paper: &str, stated: Option<&str>| Question {
             case: Case {
-                call: Call::Text(Vec::new()),
                 stated: stated.map(str::to_string),
+                ..Case::open(Call::Text(Vec::new()))
             },
             paper: paper.to_string(),
         };
@@ -310,5 +392,35 @@ mod tests {
         assert!(question("text 2", Some("text 2")).agrees("text 2"));
         assert!(!question("text 2", Some("text 0")).agrees("text 2"));
         assert!(!question("text 2", Some("text 0")).agrees("text 0"));
+        assert!(question("cycle 0 root=-", Some("cycle 0")).agrees("cycle 0 root=-"));
+        assert!(!question("cycle 0 root=-", Some("cycle 0")).agrees("cycle 0"));
+        assert!(!question("root 11 root=1", Some("root 1")).agrees("root 11 root=1"));
+    }
+
+    #[test]
+    fn only_the_line_of_an_error_is_compared() {
+        let question = Question {
+            case: Case::open(Call::State),
+            paper: "error 7 unknown call".to_string(),
+        };
+        assert!(question.agrees("error 7 no such call"));
+        for other in ["error 8 unknown call", "error 7", "error 7 ", "error", "state root=-"] {
+            assert!(!question.agrees(other), "{other}");
+        }
+    }
+
+    #[test]
+    fn a_missing_or_strange_answer_fails() {
+        let complete = Group {
+            complete: &["text"],
+            ..group(1, &[])
+        };
+        assert!(!passes(report(1, 1), &complete));
+        let mut whole = report(1, 1);
+        whole.kinds.insert("text 1".to_string(), 1);
+        assert!(passes(whole, &complete));
+        let mut strange = report(1, 1);
+        strange.kinds.insert("text 3".to_string(), 1);
+        assert!(!passes(strange, &group(1, &[])));
     }
 }

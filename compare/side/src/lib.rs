@@ -3,8 +3,8 @@
 //! Every group of inputs is one script. A thread writes it to replay's standard input and notes what paper says to each
 //! line; the answers are compared as they come back. Nothing that replay says ever becomes what is expected of it.
 //!
-//! To let another call join: a case of [`calls::Call`], its line and paper's answer there, and a module of inputs under
-//! [`groups`].
+//! To let another call join: a case of [`calls::Call`] with its line and paper's answer, the answers it may give, a
+//! module of inputs under [`groups`], and its name in the list of calls that are compared.
 
 pub mod calls;
 pub mod child;
@@ -12,3 +12,4 @@ pub mod compare;
 pub mod groups;
 pub mod options;
 pub mod random;
+pub mod shelf;

@@ -1,5 +1,6 @@
 //! Runs replay and paper side by side; the last line says how many groups of inputs passed and failed.
 
+use std::io::{BufWriter, Write, stdout};
 use std::process::ExitCode;
 use std::time::Instant;
 
@@ -25,6 +26,12 @@ fn main() -> ExitCode {
     if groups.is_empty() {
         return refuse(&format!("no group of inputs has '{}' in its name", options.only));
     }
+    if options.print {
+        return print(&groups, options.seed);
+    }
+    if !options.all_calls {
+        groups.retain(is_compared);
+    }
     match run_all(&groups, &options) {
         Ok(failed) => conclude(groups.len() - failed, failed),
         Err(error) => {
@@ -32,6 +39,27 @@ fn main() -> ExitCode {
             conclude(0, groups.len())
         }
     }
+}
+
+/// Whether all the calls of a group are compared. If not, says so.
+fn is_compared(group: &Group) -> bool {
+    let missing = groups::missing_calls(group);
+    if !missing.is_empty() {
+        println!("{}: left out, not compared yet: {}", group.name, missing.join(", "));
+    }
+    missing.is_empty()
+}
+
+/// Prints the script of each group.
+fn print(groups: &[Group], seed: u64) -> ExitCode {
+    let mut output = BufWriter::new(stdout().lock());
+    let lines = groups.iter().flat_map(|group| (group.cases)(seed));
+    for case in lines {
+        if writeln!(output, "{}", case.line()).is_err() {
+            return ExitCode::FAILURE;
+        }
+    }
+    ExitCode::SUCCESS
 }
 
 fn refuse(error: &str) -> ExitCode {
@@ -70,7 +98,7 @@ fn run_all(groups: &[Group], options: &Options) -> Result<usize, String> {
 /// Runs a group and prints its report. Gives whether it passed.
 fn run_one(group: &Group, seed: u64, options: &Options) -> Result<bool, String> {
     let start = Instant::now();
-    let report = compare::run(group, seed, &options.replay, options.patience)?;
+    let report = compare::run(group, seed, options)?;
     let seconds = start.elapsed().as_secs_f64();
     println!("{}, seed {seed}, {seconds:.2} s: {report}", group.name);
     for failure in report.shown() {

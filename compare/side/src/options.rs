@@ -11,7 +11,10 @@ side: runs replay and paper side by side
   --minutes M         go on with fresh seeds until M minutes have passed
   --only WORDS        only the groups whose name contains these words
   --patience SECONDS  how long replay may take over one answer (default 60)
+  --first             end a group at its first wrong answer
+  --all-calls         run also the groups of calls that are not compared yet
   --whole             print lines of a script that are very long as a whole
+  --print             print the script of the groups instead of running them
   --list              print the names of the groups and end
   --help              print this and end";
 
@@ -28,8 +31,14 @@ pub struct Options {
     pub only: String,
     /// How long to wait for one answer.
     pub patience: Duration,
+    /// End a group at its first wrong answer.
+    pub first: bool,
+    /// Run also the groups of calls that are not compared yet.
+    pub all_calls: bool,
     /// Print very long lines of a script as a whole.
     pub whole: bool,
+    /// Print the script of the groups instead of running them.
+    pub print: bool,
     /// Print the names of the groups instead of running them.
     pub list: bool,
     /// Print how to call the program.
@@ -47,7 +56,10 @@ impl Options {
             duration: Duration::ZERO,
             only: String::new(),
             patience: Duration::from_secs(60),
+            first: false,
+            all_calls: false,
             whole: false,
+            print: false,
             list: false,
             help: false,
         }
@@ -59,7 +71,10 @@ impl Options {
         while let Some(word) = words.next() {
             let mut value = || words.next().ok_or_else(|| format!("{word}: a value is missing"));
             match word.as_str() {
+                "--first" => options.first = true,
+                "--all-calls" => options.all_calls = true,
                 "--whole" => options.whole = true,
+                "--print" => options.print = true,
                 "--list" => options.list = true,
                 "--help" => options.help = true,
                 "--replay" => options.replay = PathBuf::from(value()?),
@@ -102,13 +117,16 @@ mod tests {
 
     #[test]
     fn every_option() {
-        let options = read("--replay r --seed 7 --minutes 0.5 --only text --patience 2 --whole --list --help").unwrap();
+        let words = "--replay r --seed 7 --minutes 0.5 --only text --patience 2";
+        let switches = "--first --all-calls --whole --print --list --help";
+        let options = read(&format!("{words} {switches}")).unwrap();
         assert_eq!(options.replay, PathBuf::from("r"));
         assert_eq!(options.seed, 7);
         assert_eq!(options.duration, Duration::from_secs(30));
         assert_eq!(options.only, "text");
         assert_eq!(options.patience, Duration::from_secs(2));
-        assert!(options.whole && options.list && options.help);
+        assert!(options.first && options.all_calls && options.whole);
+        assert!(options.print && options.list && options.help);
     }
 
     #[test]

@@ -3,10 +3,10 @@
 use std::process::{Command, Output};
 use std::time::{Duration, Instant};
 
-/// Runs the comparison against the stand-in, which behaves in the given manner.
+/// Runs the comparison of all calls against the stand-in, which behaves in the given manner.
 fn side(manner: &str, options: &[&str]) -> Run {
     let output = Command::new(env!("CARGO_BIN_EXE_side"))
-        .args(["--replay", env!("CARGO_BIN_EXE_stand-in")])
+        .args(["--all-calls", "--replay", env!("CARGO_BIN_EXE_stand-in")])
         .args(options)
         .env("STAND_IN", manner)
         .output()
@@ -54,6 +54,47 @@ const LIMITS: &[&str] = &["--only", "text, limits"];
 fn good_answers_pass() {
     side("", &["--only", "text"]).must_pass("6 passed, 0 failed");
     side("", &["--only", "dates"]).must_pass("4 passed, 0 failed");
+    side("", &["--only", "forms"]).must_pass("5 passed, 0 failed");
+    side("", &["--only", "look"]).must_pass("2 passed, 0 failed");
+    for group in ["script, lines", "keys", "images", "history, by name"] {
+        side("", &["--only", group]).must_pass("1 passed, 0 failed");
+    }
+}
+
+#[test]
+fn good_answers_to_histories_pass() {
+    side("", &["--only", "histories"]).must_pass("1 passed, 0 failed");
+}
+
+#[test]
+fn groups_of_calls_that_are_not_compared_yet_are_left_out_and_named() {
+    let groups: Vec<_> = side::groups::all()
+        .into_iter()
+        .filter(|group| group.name.contains("by name"))
+        .collect();
+    let left_out = groups
+        .iter()
+        .filter(|group| !side::groups::missing_calls(group).is_empty());
+    let left_out: Vec<&str> = left_out.map(|group| group.name).collect();
+    let output = Command::new(env!("CARGO_BIN_EXE_side"))
+        .args(["--replay", env!("CARGO_BIN_EXE_stand-in"), "--only", "by name"])
+        .output()
+        .expect("the comparison starts");
+    let run = Run::new(output);
+    run.must_pass(&format!("{} passed, 0 failed", groups.len() - left_out.len()));
+    for name in left_out {
+        assert!(run.text.contains(&format!("{name}: left out")), "{}", run.text);
+    }
+}
+
+#[test]
+fn the_script_of_a_group_can_be_printed() {
+    let run = side("", &["--only", "text, by name", "--print"]);
+    assert!(
+        run.passed && run.text.starts_with("text 7b2261223a312c226121223a327d\n"),
+        "{}",
+        run.text
+    );
 }
 
 #[test]
@@ -91,33 +132,33 @@ fn one_wrong_answer_in_a_long_script_is_caught() {
         ("text, generated", 399_999),
         ("dates, every day", 3_652_425),
         ("text, UTF-8", 100_000),
+        ("forms, root", 15_000),
     ] {
         let run = side(&format!("wrong:{line}"), &["--only", group]);
-        run.must_fail(
-            "0 passed, 1 failed",
-            &[&format!("input {line}: "), "FAILED, 1 failures"],
-        );
+        run.must_fail("0 passed, 1 failed", &[&format!("input {line}"), "FAILED, 1 failures"]);
     }
 }
 
 #[test]
 fn only_the_group_that_failed_counts_as_failed() {
-    // Only one of the two groups has so many inputs.
-    side("wrong:20", BY_NAME).must_fail("1 passed, 1 failed", &["text, by name", "FAILED"]);
+    // The dates are fewer.
+    side("wrong:20", BY_NAME).must_fail("1 passed, 3 failed", &["text, by name", "FAILED"]);
 }
 
 #[test]
 fn a_missing_or_added_line_is_caught() {
     side("silent:5", LIMITS).must_fail("0 passed, 1 failed", &["replay: has ended"]);
     side("double:5", LIMITS).must_fail("0 passed, 1 failed", &["more answers than calls"]);
+    side("silent:90", &["--only", "history, by name"]).must_fail("0 passed, 1 failed", &["replay: has ended"]);
+    side("double:90", &["--only", "history, by name"]).must_fail("0 passed, 1 failed", &["input 91"]);
     side("unended", LIMITS).must_fail("0 passed, 1 failed", &["text (line end missing)"]);
 }
 
 #[test]
 fn an_early_end_or_a_bad_status_is_caught() {
-    side("stop:7", BY_NAME).must_fail("0 passed, 2 failed", &["input 7: ", "replay: has ended"]);
+    side("stop:7", BY_NAME).must_fail("0 passed, 4 failed", &["input 7: ", "replay: has ended"]);
     side("stop:7", LIMITS).must_fail("0 passed, 1 failed", &["input 7: ", "replay: has ended"]);
-    side("status", BY_NAME).must_fail("0 passed, 2 failed", &["exit status: 3"]);
+    side("status", BY_NAME).must_fail("0 passed, 4 failed", &["exit status: 3"]);
 }
 
 #[test]
@@ -131,11 +172,11 @@ fn a_program_that_hangs_is_not_waited_for() {
 #[test]
 fn a_program_that_cannot_be_started_fails_all() {
     let output = Command::new(env!("CARGO_BIN_EXE_side"))
-        .args(["--replay", "no/such/replay", "--only", "by name"])
+        .args(["--replay", "no/such/replay", "--all-calls", "--only", "by name"])
         .output()
         .expect("the comparison starts");
     let run = Run::new(output);
-    run.must_fail("0 passed, 2 failed", &[]);
+    run.must_fail("0 passed, 4 failed", &[]);
     assert!(
         run.errors.contains("cannot start replay as no/such/replay"),
         "{}",
@@ -163,7 +204,7 @@ fn minutes_go_on_with_fresh_seeds() {
 /// Runs one group against a library with each of the mistakes, which it must notice.
 fn must_notice(group: &str, mistakes: &[&str]) {
     for mistake in mistakes {
-        let run = side(mistake, &["--only", group]);
+        let run = side(mistake, &["--first", "--only", group]);
         assert!(!run.passed, "{mistake} was not noticed by {group}");
         assert!(run.text.contains("script: "), "{mistake}: {}", run.text);
     }
@@ -302,5 +343,369 @@ fn mistakes_are_noticed_by_damaged_dates() {
     must_notice(
         "dates, damaged",
         &["small-letters", "longer-date", "no-date-before-1970"],
+    );
+}
+
+#[test]
+fn a_wrong_answer_in_a_history_is_shown_with_where_the_history_began() {
+    let run = side("wrong:2", &["--only", "history, by name", "--first"]);
+    run.must_fail(
+        "0 passed, 1 failed",
+        &[
+            "input 2 (since input 2): ",
+            "script: install 7b",
+            "stated: install 10\n",
+        ],
+    );
+}
+
+#[test]
+fn mistakes_are_noticed_by_looks() {
+    must_notice(
+        "look and entry, by name",
+        &[
+            "look-first-signed",
+            "look-from-1",
+            "look-to-the-end",
+            "look-signatures",
+            "look-asks-for-a-role",
+            "look-refused-gives-all",
+            "entry-from-1",
+            "entry-place-32-bit",
+            "entry-refused-gives-the-last",
+            "17-entries-taken",
+        ],
+    );
+    must_notice(
+        "look and entry, generated",
+        &[
+            "look-first-signed",
+            "look-to-the-end",
+            "entry-from-1",
+            "entry-place-32-bit",
+            "entry-place-first",
+            "unknown-envelope-member-refused",
+            "upper-case-hex-taken",
+            "15-entries",
+            "17-entries-taken",
+            "signed-array-taken",
+        ],
+    );
+}
+
+#[test]
+fn mistakes_are_noticed_by_keys() {
+    must_notice(
+        "keys",
+        &[
+            "key-in-any-case",
+            "key-first-64",
+            "key-trimmed",
+            "key-blank-15",
+            "key-form-before-held",
+            "key-gives-keyid",
+            "old-keys-kept",
+            "first-roles-believed",
+        ],
+    );
+}
+
+#[test]
+fn mistakes_are_noticed_by_images() {
+    must_notice(
+        "images",
+        &[
+            "image-length-unchecked",
+            "image-length-32-bit",
+            "image-up-to-length",
+            "image-digest-unchecked",
+            "image-31-bytes",
+            "image-longer-digests",
+            "image-found-unjudged",
+            "image-8-before-5",
+        ],
+    );
+}
+
+#[test]
+fn mistakes_are_noticed_by_forms_of_roots() {
+    must_notice(
+        "forms, root",
+        &[
+            "unknown-member-refused",
+            "unknown-envelope-member-refused",
+            "unknown-role-refused",
+            "keyids-in-order",
+            "upper-case-hex-taken",
+            "type-unchecked",
+            "spec-version-unchecked",
+            "consistent-snapshot-missing-taken",
+            "consistent-snapshot-any",
+            "keytype-unchecked",
+            "scheme-unchecked",
+            "keyid-twice-taken",
+            "stray-keyid-taken",
+            "threshold-0-taken",
+            "threshold-above-taken",
+        ],
+    );
+}
+
+#[test]
+fn mistakes_are_noticed_by_forms_of_timestamps() {
+    must_notice(
+        "forms, timestamp",
+        &[
+            "unknown-member-refused",
+            "unknown-envelope-member-refused",
+            "sig-unchecked",
+            "upper-case-hex-taken",
+            "type-unchecked",
+            "version-0-taken",
+            "version-wraps-at-64-bits",
+            "version-without-end",
+            "expires-unchecked",
+            "spec-version-unchecked",
+            "further-meta-taken",
+            "other-hash-refused",
+            "hashes-without-sha256-taken",
+            "length-33-bit-taken",
+            "null-length-taken",
+        ],
+    );
+}
+
+#[test]
+fn mistakes_are_noticed_by_forms_of_snapshots() {
+    must_notice(
+        "forms, snapshot",
+        &[
+            "type-unchecked",
+            "version-0-taken",
+            "spec-version-with-dots",
+            "targets-json-missing-taken",
+            "empty-name-taken",
+            "other-hash-refused",
+            "hashes-without-sha256-taken",
+            "length-33-bit-taken",
+            "null-length-taken",
+        ],
+    );
+}
+
+#[test]
+fn mistakes_are_noticed_by_forms_of_targets() {
+    must_notice(
+        "forms, targets",
+        &[
+            "type-unchecked",
+            "version-0-taken",
+            "spec-version-by-first-digit",
+            "no-targets-refused",
+            "empty-path-taken",
+            "hashes-missing-taken",
+            "hashes-without-sha256-taken",
+            "length-33-bit-taken",
+        ],
+    );
+}
+
+#[test]
+fn mistakes_are_noticed_by_limits_of_forms() {
+    must_notice(
+        "forms, limits",
+        &[
+            "name-bytes-with-escapes",
+            "path-bytes-with-escapes",
+            "255-targets",
+            "15-entries",
+            "17-entries-taken",
+            "17-keys-taken",
+            "33-names-taken",
+            "257-targets-taken",
+            "name-33-taken",
+            "empty-name-taken",
+            "path-129-taken",
+            "empty-path-taken",
+            "length-33-bit-taken",
+            "keyid-twice-taken",
+            "same-public-taken",
+            "4-before-3",
+            "spec-version-by-first-digit",
+            "version-wraps-at-64-bits",
+        ],
+    );
+}
+
+#[test]
+fn mistakes_are_noticed_by_histories_by_name() {
+    must_notice(
+        "history, by name",
+        &[
+            "signatures-counted",
+            "one-row",
+            "own-row-only",
+            "roots-skipped",
+            "expired-root-refused",
+            "expired-install-refused",
+            "14-before-9",
+            "9-before-8",
+            "same-root-taken",
+            "same-timestamp-taken",
+            "same-timestamp-11",
+            "listed-snapshot-must-rise",
+            "vanished-name-taken",
+            "lowered-name-taken",
+            "only-targets-json-compared",
+            "first-names-compared",
+            "expired-a-second-late",
+            "root-expiry-forgotten",
+            "timestamp-expiry-forgotten",
+            "snapshot-expiry-forgotten",
+            "targets-expiry-forgotten",
+            "time-unsigned",
+            "time-32-bit",
+            "clock-never-back",
+            "stale-snapshot-leaned-on",
+            "stale-targets-found",
+            "find-with-escapes",
+            "find-in-any-case",
+            "find-to-zero-byte",
+            "find-31-bit",
+            "find-digest-unchecked",
+            "rotation-missed",
+            "snapshot-rotation-missed",
+            "rotation-keeps-targets",
+            "targets-rotation-missed",
+            "targets-rotation-drops-all",
+            "root-rotation-drops-all",
+            "threshold-is-rotation",
+            "value-is-rotation",
+            "refused-install-keeps-state",
+            "refused-install-keeps-time",
+            "install-keeps-records",
+            "short-row-filled",
+            "long-row-cut",
+            "verdicts-above-1-taken",
+            "long-digest-cut",
+            "state-hides-targets",
+        ],
+    );
+}
+
+#[test]
+fn mistakes_about_keys_are_noticed_by_histories() {
+    must_notice(
+        "histories",
+        &[
+            "signatures-counted",
+            "threshold-ignored",
+            "any-root-key-signs",
+            "first-entry-decides",
+            "last-entry-decides",
+            "one-row",
+            "own-row-only",
+            "rows-swapped",
+            "verdicts-above-1-taken",
+            "short-row-filled",
+            "long-row-cut",
+            "long-digest-cut",
+            "10-before-9",
+            "11-before-9",
+            "9-before-8",
+            "key-in-any-case",
+            "key-first-64",
+            "old-keys-kept",
+        ],
+    );
+}
+
+#[test]
+fn mistakes_about_roots_are_noticed_by_histories() {
+    must_notice(
+        "histories",
+        &[
+            "roots-skipped",
+            "same-root-taken",
+            "expired-root-refused",
+            "expired-install-refused",
+            "refused-install-keeps-state",
+            "refused-install-keeps-time",
+            "install-keeps-records",
+            "root-sets-time",
+            "rotation-missed",
+            "snapshot-rotation-missed",
+            "rotation-keeps-targets",
+            "rotation-keeps-snapshot",
+            "targets-rotation-missed",
+            "targets-rotation-drops-all",
+            "root-rotation-drops-all",
+            "threshold-is-rotation",
+            "value-is-rotation",
+            "first-roles-believed",
+        ],
+    );
+}
+
+#[test]
+fn mistakes_about_versions_and_listings_are_noticed_by_histories() {
+    must_notice(
+        "histories",
+        &[
+            "all-refused",
+            "same-timestamp-taken",
+            "same-timestamp-11",
+            "lower-timestamp-taken",
+            "lower-snapshot-listed",
+            "listed-snapshot-must-rise",
+            "13-before-11",
+            "14-before-9",
+            "higher-snapshot-taken",
+            "held-snapshot-forgotten",
+            "vanished-name-taken",
+            "lowered-name-taken",
+            "only-targets-json-compared",
+            "first-names-compared",
+            "lowest-names-kept",
+            "snapshot-length-unchecked",
+            "snapshot-digest-unchecked",
+            "digest-must-be-listed",
+            "targets-length-unchecked",
+            "targets-digest-unchecked",
+            "targets-version-unchecked",
+            "targets-must-rise",
+        ],
+    );
+}
+
+#[test]
+fn mistakes_about_times_and_what_is_current_are_noticed_by_histories() {
+    must_notice(
+        "histories",
+        &[
+            "time-unsigned",
+            "time-32-bit",
+            "clock-never-back",
+            "expired-a-second-late",
+            "root-expiry-forgotten",
+            "timestamp-expiry-forgotten",
+            "snapshot-expiry-forgotten",
+            "targets-expiry-forgotten",
+            "stale-snapshot-leaned-on",
+            "stale-targets-found",
+            "timestamp-drops-snapshot",
+            "snapshot-drops-targets",
+            "cycle-drops-targets",
+            "first-digest-kept",
+            "state-hides-targets",
+            "find-digest-unchecked",
+            "find-with-escapes",
+            "find-first-128",
+            "find-in-any-case",
+            "find-to-zero-byte",
+            "find-path-first",
+            "find-127",
+            "find-31-bit",
+        ],
     );
 }

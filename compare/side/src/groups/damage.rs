@@ -81,11 +81,16 @@ pub fn damaged(random: &mut Random) -> Vec<u8> {
         0 => texts::too_deep(random),
         1 => texts::misordered(random),
         _ => {
-            let mut text = texts::sound(random);
-            random.pick(EDITS)(&mut text, random);
-            text
+            let text = texts::sound(random);
+            edited(text, random)
         }
     }
+}
+
+/// The text after one edit.
+pub fn edited(mut text: Vec<u8>, random: &mut Random) -> Vec<u8> {
+    random.pick(EDITS)(&mut text, random);
+    text
 }
 
 /// A place of a byte; `None` if there is none.

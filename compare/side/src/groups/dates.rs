@@ -21,30 +21,38 @@ pub fn groups() -> Vec<Group> {
     vec![
         Group {
             name: "dates, by name",
+            calls: &["date"],
             cases: |_| by_name(),
             least: 14,
             shares: &[("date SECONDS", 10), ("date bad", 10)],
+            complete: &[],
             renewed: false,
         },
         Group {
             name: "dates, every day",
+            calls: &["date"],
             cases: every_day,
             least: DAYS,
             shares: &[("date SECONDS", 100)],
+            complete: &[],
             renewed: false,
         },
         Group {
             name: "dates, every field",
+            calls: &["date"],
             cases: |_| every_field(),
             least: 170_000,
             shares: &[("date SECONDS", 1), ("date bad", 10)],
+            complete: &[],
             renewed: false,
         },
         Group {
             name: "dates, damaged",
+            calls: &["date"],
             cases: damaged,
             least: DAMAGED,
             shares: &[("date SECONDS", 10), ("date bad", 10)],
+            complete: &[],
             renewed: true,
         },
     ]

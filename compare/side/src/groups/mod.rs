@@ -2,22 +2,102 @@
 
 mod damage;
 mod dates;
-mod names;
+mod forms;
+mod histories;
+mod images;
+mod keys;
+mod limits;
+mod lines;
+mod looks;
+mod mutants;
+mod named;
+pub(crate) mod names;
 mod text;
 mod texts;
 
-use crate::compare::Group;
+use crate::calls::{Call, Line, Player};
+use crate::compare::{Case, Cases, Group};
+
+/// The calls of replay that are compared: all that it has. A group is run only if all of its calls are in this list, so
+/// that the group of a call which replay has still to get can stand ready; such a group is named in the report.
+pub const COMPARED: &[&str] = &[
+    "text", "date", "look", "entry", "key", "install", "cycle", "root", "timestamp", "snapshot", "targets", "find", "image",
+    "state",
+];
 
 /// Every group, in the order in which they are run.
 pub fn all() -> Vec<Group> {
-    let mut groups = text::groups();
-    groups.extend(dates::groups());
-    groups
+    [
+        text::groups(),
+        dates::groups(),
+        lines::groups(),
+        looks::groups(),
+        keys::groups(),
+        images::groups(),
+        forms::groups(),
+        limits::groups(),
+        named::groups(),
+        histories::groups(),
+    ]
+    .into_iter()
+    .flatten()
+    .collect()
+}
+
+/// The calls of a group that are not compared yet.
+pub fn missing_calls(group: &Group) -> Vec<&'static str> {
+    let is_missing = |call: &&&str| !COMPARED.contains(*call);
+    group.calls.iter().filter(is_missing).copied().collect()
+}
+
+/// All of these cases.
+fn all_of(cases: Vec<Case>) -> Cases {
+    Box::new(cases.into_iter())
+}
+
+/// Collects the cases of a script and plays them with paper on the way. That steers only what is tried next.
+#[derive(Default)]
+struct Recorder {
+    player: Player,
+    cases: Vec<Case>,
+}
+
+impl Recorder {
+    /// Adds a call on which paper has the only word. Gives its answer.
+    fn open(&mut self, call: Call) -> String {
+        self.add(call, None)
+    }
+
+    /// Adds a call whose answer is known.
+    fn stated(&mut self, call: Call, answer: impl Into<String>) -> String {
+        self.add(call, Some(answer.into()))
+    }
+
+    fn add(&mut self, call: Call, stated: Option<String>) -> String {
+        let line = Line::Call(call);
+        let answer = self.player.answer(&line).expect("every call is answered");
+        let case = match stated {
+            Some(stated) => Case::stated(line, stated),
+            None => Case::open(line),
+        };
+        self.cases.push(case.answered(answer.clone()));
+        answer
+    }
+
+    /// The state that paper holds now.
+    fn state(&self) -> &paper::state::State {
+        &self.player.script.state
+    }
+
+    /// The cases collected so far.
+    fn take(&mut self) -> Vec<Case> {
+        std::mem::take(&mut self.cases)
+    }
 }
 
 #[cfg(test)]
 mod tests {
-    use super::all;
+    use super::{missing_calls, all};
     use crate::random::Random;
     use std::collections::BTreeSet;
 
@@ -39,6 +119,27 @@ mod tests {
             if group.renewed {
                 assert_ne!(first_inputs(3), first_inputs(4), "{}", group.name);
             }
+        }
+    }
+
+    #[test]
+    fn groups_say_which_calls_they_make() {
+        for group in all() {
+            let made: BTreeSet<String> = (group.cases)(1)
+                .take(6_000)
+                .map(|case| case.line().split(' ').next().unwrap_or_default().to_string())
+                .collect();
+            let named: BTreeSet<String> = group.calls.iter().map(|call| call.to_string()).collect();
+            if group.name != "script, lines" {
+                assert_eq!(made, named, "{}", group.name);
+            }
+        }
+    }
+
+    #[test]
+    fn every_group_is_run() {
+        for group in all() {
+            assert_eq!(missing_calls(&group), Vec::<&str>::new(), "{}", group.name);
         }
     }
 

@@ -1,6 +1,6 @@
 //! `text BYTES`: is it a file's length, and is it canonical?
 
-use super::{damage, names, texts};
+use super::{all_of, damage, names, texts};
 use crate::calls::Call;
 use crate::compare::{Case, Cases, Group};
 use crate::random::Random;
@@ -13,44 +13,56 @@ pub fn groups() -> Vec<Group> {
     vec![
         Group {
             name: "text, by name",
+            calls: &["text"],
             cases: |_| by_name(),
             least: 20,
             shares: &[("text 0", 10), ("text 2", 10)],
+            complete: &[],
             renewed: false,
         },
         Group {
             name: "text, generated",
+            calls: &["text"],
             cases: generated,
             least: GENERATED,
             shares: &[("text 0", 10), ("text 2", 10)],
+            complete: &[],
             renewed: true,
         },
         Group {
             name: "text, exhaustive",
+            calls: &["text"],
             cases: |_| exhaustive(),
             least: 3 * (1 + 24 + 24 * 24 + 24 * 24 * 24),
             shares: &[("text 0", 1), ("text 2", 10)],
+            complete: &[],
             renewed: false,
         },
         Group {
             name: "text, pairs of names",
+            calls: &["text"],
             cases: |_| pairs_of_names(),
             least: 24_000,
             shares: &[("text 0", 10), ("text 2", 10)],
+            complete: &[],
             renewed: false,
         },
         Group {
             name: "text, UTF-8",
+            calls: &["text"],
             cases: |_| utf8(),
             least: 200_000,
             shares: &[("text 0", 1), ("text 2", 10)],
+            complete: &[],
             renewed: false,
         },
         Group {
             name: "text, limits",
+            calls: &["text"],
             cases: |_| limits(),
             least: 60,
             shares: &[("text 0", 10), ("text 1", 10), ("text 2", 10)],
+            complete: &[],
             renewed: false,
         },
     ]
@@ -62,10 +74,6 @@ fn open(bytes: impl Into<Vec<u8>>) -> Case {
 
 fn stated(bytes: impl Into<Vec<u8>>, number: usize) -> Case {
     Case::stated(Call::Text(bytes.into()), format!("text {number}"))
-}
-
-fn all_of(cases: Vec<Case>) -> Cases {
-    Box::new(cases.into_iter())
 }
 
 /// The texts that document 01 speaks of.

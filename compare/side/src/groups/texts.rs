@@ -89,6 +89,13 @@ pub fn sound(random: &mut Random) -> Vec<u8> {
     maker.text
 }
 
+/// A canonical text that is at most 4 levels deep.
+pub fn shallow(random: &mut Random) -> Vec<u8> {
+    let mut maker = Maker::new(random);
+    maker.value(4);
+    maker.text
+}
+
 /// A text that is canonical but for its depth, 9.
 pub fn too_deep(random: &mut Random) -> Vec<u8> {
     let mut maker = Maker::new(random);

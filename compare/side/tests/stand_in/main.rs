@@ -1,6 +1,6 @@
 //! Stands in for replay in the tests of the comparison. It answers with paper's own answers, and so shows nothing about
 //! replay. The variable STAND_IN makes it misbehave: as a program (`wrong:7`: a wrong answer to line 7) or as a library
-//! (`second-60`: a known mistake, see `mistakes.rs`).
+//! (`second-60`: a known mistake, see `mistakes`).
 
 mod mistakes;
 
@@ -9,7 +9,7 @@ use std::process::exit;
 use std::thread::sleep;
 use std::time::Duration;
 
-use side::calls::{Call, Player};
+use paper::script::{Call, Script};
 
 /// How to misbehave, and at which line.
 struct Manner {
@@ -37,9 +37,12 @@ fn main() {
     if manner.name == "late" {
         return answer_late();
     }
+    let mut script = Script::default();
     let mut output = BufWriter::new(stdout().lock());
-    for (number, line) in (1..).zip(stdin().lock().lines()) {
-        let answer = answer(&line.expect("a line"), &manner.name);
+    for (number, line) in (1..).zip(stdin().lock().split(b'\n')) {
+        let Some(answer) = answer(&mut script, &line.expect("a line"), &manner.name) else {
+            continue;
+        };
         match manner.name.as_str() {
             "prompt" => output.flush().expect("an open pipe"),
             _ if manner.is_due("stop", number) => break,
@@ -47,7 +50,7 @@ fn main() {
             _ if manner.is_due("silent", number) => continue,
             _ if manner.is_due("double", number) => say(&mut output, &answer),
             _ if manner.is_due("wrong", number) => {
-                say(&mut output, wrong(&answer));
+                say(&mut output, &wrong(&answer));
                 continue;
             }
             _ => {}
@@ -65,8 +68,10 @@ fn main() {
 
 /// Writes nothing before it has read everything.
 fn answer_late() {
-    let lines: Vec<String> = stdin().lock().lines().map(|line| line.expect("a line")).collect();
-    let answers: Vec<String> = lines.iter().map(|line| answer(line, "") + "\n").collect();
+    let lines: Vec<Vec<u8>> = stdin().lock().split(b'\n').map(|line| line.expect("a line")).collect();
+    let mut script = Script::default();
+    let answers = lines.iter().filter_map(|line| answer(&mut script, line, ""));
+    let answers: Vec<String> = answers.map(|answer| answer + "\n").collect();
     stdout().write_all(answers.concat().as_bytes()).expect("an open pipe");
 }
 
@@ -75,31 +80,23 @@ fn say(output: &mut impl Write, answer: &str) {
 }
 
 /// Another answer that could have been given.
-fn wrong(answer: &str) -> &'static str {
+fn wrong(answer: &str) -> String {
     match answer {
-        "text 0" => "text 2",
-        "date bad" => "date 0",
-        _ if answer.starts_with("text") => "text 0",
-        _ => "date bad",
+        "text 0" => "text 2".to_string(),
+        "date bad" => "date 0".to_string(),
+        _ if answer.starts_with("text") => "text 0".to_string(),
+        _ if answer.starts_with("date") => "date bad".to_string(),
+        _ => match answer.rfind(|byte: char| byte.is_ascii_digit()) {
+            Some(place) if &answer[place..=place] == "0" => format!("{}1{}", &answer[..place], &answer[place + 1..]),
+            Some(place) => format!("{}0{}", &answer[..place], &answer[place + 1..]),
+            None => format!("{answer} 0"),
+        },
     }
 }
 
-fn answer(line: &str, mistake: &str) -> String {
-    let (name, argument) = line.split_once(' ').expect("a call and its argument");
-    let bytes = bytes(argument);
-    let call = match name {
-        "text" => Call::Text(bytes),
-        "date" => Call::Date(bytes),
-        _ => panic!("no such call: {name}"),
-    };
-    mistakes::answer(mistake, &call).unwrap_or_else(|| Player::default().answer(&call))
-}
-
-fn bytes(argument: &str) -> Vec<u8> {
-    if argument == "-" {
-        return Vec::new();
+fn answer(script: &mut Script, line: &[u8], mistake: &str) -> Option<String> {
+    match Call::read(line) {
+        Ok(call) => Some(mistakes::answer(mistake, script, &call).unwrap_or_else(|| script.call(&call))),
+        Err(_) => script.line(line),
     }
-    assert!(!argument.is_empty() && argument.len().is_multiple_of(2), "{argument}");
-    let byte = |place| u8::from_str_radix(&argument[place..place + 2], 16).expect("hex");
-    (0..argument.len()).step_by(2).map(byte).collect()
 }

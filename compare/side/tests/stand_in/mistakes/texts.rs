@@ -1,9 +1,8 @@
-//! Mistakes that an implementation of document 01 might make. Each is made by answering for other bytes than those
-//! given, or by refusing where there is nothing to refuse. The comparison has to notice every one of them.
+//! Mistakes about texts and dates.
 
 use paper::json::Value;
+use paper::script::{Call, Script};
 use paper::{date, file};
-use side::calls::{Call, Player};
 
 /// The answer of a library with this mistake; `None` where the mistake plays no part.
 pub fn answer(mistake: &str, call: &Call) -> Option<String> {
@@ -11,11 +10,12 @@ pub fn answer(mistake: &str, call: &Call) -> Option<String> {
         Call::Text(bytes) if refuses_text(mistake, bytes) => Some("text 2".to_string()),
         Call::Text(bytes) => text_taken_for(mistake, bytes).map(|other| answer_to(Call::Text(other))),
         Call::Date(bytes) => date_answer(mistake, bytes),
+        _ => None,
     }
 }
 
 fn answer_to(call: Call) -> String {
-    Player::default().answer(&call)
+    Script::default().call(&call)
 }
 
 /// Mistakes that refuse a sound text.

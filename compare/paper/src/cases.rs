@@ -1,0 +1,698 @@
+//! The cases that document 01 names, and the steps in their order.
+
+use crate::forms;
+use crate::hex;
+use crate::refusal::Refusal::{self, *};
+use crate::shelf::{self, EXPIRES, NOW, Root, digest, file, keyid, public};
+use crate::state::{State, image};
+
+/// A state that holds this root alone.
+fn installed(root: &Root) -> State {
+    State::install(&root.file(&[1, 2]), &[1, 1], NOW).unwrap()
+}
+
+/// A state that holds a timestamp 3, a snapshot 5 with `a` at 9, and targets 7 with the digest of 7s.
+fn complete() -> State {
+    let mut state = installed(&Root::new(1));
+    assert_eq!(state.timestamp(&timestamp_file(3, 5), &[1]), Ok(()));
+    assert_eq!(
+        state.snapshot(&snapshot_file(5, &[("a", 9), ("targets.json", 7)]), &[1], &digest(5)),
+        Ok(())
+    );
+    assert_eq!(state.targets(&targets_file(7), &[1], &digest(7)), Ok(()));
+    state
+}
+
+fn timestamp_file(version: u64, snapshot: u64) -> Vec<u8> {
+    file(
+        &[5],
+        &shelf::timestamp(version, EXPIRES, &format!(r#""version":{snapshot}"#)),
+    )
+}
+
+fn snapshot_file(version: u64, names: &[(&str, u64)]) -> Vec<u8> {
+    snapshot_expiring(version, EXPIRES, names)
+}
+
+fn snapshot_expiring(version: u64, expires: &str, names: &[(&str, u64)]) -> Vec<u8> {
+    let listed: Vec<String> = names
+        .iter()
+        .map(|(name, version)| format!(r#""{name}":{{"version":{version}}}"#))
+        .collect();
+    file(&[3], &shelf::snapshot(version, expires, &listed.join(",")))
+}
+
+fn targets_file(version: u64) -> Vec<u8> {
+    let sha256 = hex::written(&digest(1));
+    let table = [
+        shelf::target(r#"a\"b\\"#, 4_294_967_295, &sha256),
+        shelf::target("image", 0, &sha256),
+    ];
+    file(&[4], &shelf::targets(version, EXPIRES, &table.join(",")))
+}
+
+/// The file, made longer by a member that is passed over.
+fn padded(file: &[u8], length: usize) -> Vec<u8> {
+    let rest = length - file.len() - r#","z":"""#.len();
+    [&file[..file.len() - 1], br#","z":""#, &vec![b'x'; rest], b"\"}"].concat()
+}
+
+fn found(state: &State, path: &[u8]) -> Result<(u64, String), Refusal> {
+    let target = state.find(&targets_file(7), &digest(7), path)?;
+    Ok((target.length, target.sha256))
+}
+
+mod files_to_try {
+    use super::*;
+
+    #[test]
+    fn two_valid_entries_of_one_key_count_1() {
+        let mut root = Root::new(1);
+        root.root.1 = 2;
+        assert_eq!(State::install(&root.file(&[1, 1]), &[1, 1], NOW), Err(TooFewOwnKeys));
+        assert_eq!(
+            State::install(&root.file(&[1, 1, 2]), &[1, 1, 0], NOW),
+            Err(TooFewOwnKeys)
+        );
+        assert!(State::install(&root.file(&[1, 1, 2]), &[0, 1, 1], NOW).is_ok());
+    }
+
+    #[test]
+    fn held_root_4() {
+        for (version, answer) in [
+            (4, Err(WrongVersion)),
+            (6, Err(WrongVersion)),
+            (1, Err(WrongVersion)),
+            (5, Ok(())),
+        ] {
+            let mut state = installed(&Root::new(4));
+            assert_eq!(
+                state.root(&Root::new(version).file(&[1]), &[1], &[1]),
+                answer,
+                "{version}"
+            );
+        }
+    }
+
+    #[test]
+    fn no_next_root_after_2147483647() {
+        let highest = 2_147_483_647;
+        let mut state = installed(&Root::new(highest - 1));
+        assert_eq!(state.root(&Root::new(highest).file(&[1]), &[1], &[1]), Ok(()));
+        assert_eq!(
+            state.root(&Root::new(highest).file(&[1]), &[1], &[1]),
+            Err(WrongVersion)
+        );
+        assert_eq!(
+            state.root(&Root::new(highest + 1).file(&[1]), &[1], &[1]),
+            Err(BrokenForm)
+        );
+    }
+
+    #[test]
+    fn expires_1000() {
+        let at_1000 = file(&[5], &shelf::timestamp(1, "1970-01-01T00:16:40Z", r#""version":1"#));
+        for (start, answer) in [(999, Ok(())), (1000, Err(OfferedExpired)), (1001, Err(OfferedExpired))] {
+            let mut state = installed(&Root::new(1));
+            state.cycle(start);
+            assert_eq!(state.timestamp(&at_1000, &[1]), answer, "{start}");
+        }
+        let mut root = Root::new(1);
+        root.expires = "1970-01-01T00:16:40Z";
+        for (start, answer) in [(999, Ok(())), (1000, Err(HeldExpired))] {
+            let mut state = installed(&root);
+            state.cycle(start);
+            assert_eq!(state.timestamp(&timestamp_file(1, 1), &[1]), answer, "{start}");
+        }
+    }
+
+    #[test]
+    fn files_of_32768_and_32769_bytes() {
+        let mut state = installed(&Root::new(1));
+        assert_eq!(
+            state.timestamp(&padded(&timestamp_file(1, 1), 32_769), &[1]),
+            Err(TooLong)
+        );
+        assert_eq!(state.timestamp(&padded(&timestamp_file(1, 1), 32_768), &[1]), Ok(()));
+    }
+
+    #[test]
+    fn empty_targets_list() {
+        let mut state = complete();
+        let empty = file(&[4], &shelf::targets(8, EXPIRES, ""));
+        assert_eq!(state.timestamp(&timestamp_file(4, 6), &[1]), Ok(()));
+        assert_eq!(
+            state.snapshot(&snapshot_file(6, &[("a", 9), ("targets.json", 8)]), &[1], &digest(6)),
+            Ok(())
+        );
+        assert_eq!(state.targets(&empty, &[1], &digest(8)), Ok(()));
+        assert_eq!(state.find(&empty, &digest(8), b"image"), Err(NotListed));
+        assert_eq!(state.find(&empty, &digest(9), b"image"), Err(Differs));
+        assert_eq!(state.find(&empty, &[8; 31], b"image"), Err(BrokenArgument));
+    }
+
+    #[test]
+    fn a_timestamp_both_too_thinly_signed_and_expired() {
+        let mut state = installed(&Root::new(1));
+        let expired = file(&[5], &shelf::timestamp(1, "1999-12-31T23:59:59Z", r#""version":1"#));
+        assert_eq!(state.timestamp(&expired, &[0]), Err(TooFewHeldKeys));
+        assert_eq!(state.timestamp(&expired, &[1]), Err(OfferedExpired));
+    }
+}
+
+mod getting_it_wrong {
+    use super::*;
+
+    #[test]
+    fn counting_signatures_instead_of_keys() {
+        let mut root = Root::new(1);
+        root.timestamp = (vec![4, 5], 2);
+        let mut state = installed(&root);
+        let signed = shelf::timestamp(1, EXPIRES, r#""version":1"#);
+        for (keys, row) in [
+            (&[5, 5][..], &[1, 1][..]),
+            (&[5, 3], &[1, 1]),
+            (&[5, 4], &[1, 0]),
+            (&[5, 5, 4, 9], &[1, 1, 0, 1]),
+        ] {
+            assert_eq!(
+                state.timestamp(&file(keys, &signed), row),
+                Err(TooFewHeldKeys),
+                "{keys:?}"
+            );
+        }
+        assert_eq!(state.timestamp(&file(&[5, 9, 5, 4], &signed), &[0, 0, 1, 1]), Ok(()));
+    }
+
+    #[test]
+    fn judging_a_new_root_by_one_row() {
+        let mut new = Root::new(2);
+        new.root = (vec![6], 1);
+        for (held_row, own_row, answer) in [
+            ([1, 0], [0, 1], Ok(())),
+            ([1, 1], [1, 0], Err(TooFewOwnKeys)),
+            ([0, 1], [1, 1], Err(TooFewHeldKeys)),
+            ([0, 1], [1, 0], Err(TooFewHeldKeys)),
+            ([0, 0], [1, 1], Err(TooFewHeldKeys)),
+        ] {
+            let mut state = installed(&Root::new(1));
+            assert_eq!(
+                state.root(&new.file(&[1, 6]), &held_row, &own_row),
+                answer,
+                "{held_row:?} {own_row:?}"
+            );
+        }
+    }
+
+    #[test]
+    fn comparing_names_with_escapes_or_closing_quote() {
+        let names = [("a", 1), ("a!", 1), (r#"a\""#, 1), ("a#", 1), ("targets.json", 7)];
+        let mut state = complete();
+        assert_eq!(state.timestamp(&timestamp_file(4, 6), &[1]), Ok(()));
+        let mut lower = names;
+        lower[0].1 = 8;
+        assert_eq!(
+            state.snapshot(&snapshot_file(6, &lower), &[1], &digest(6)),
+            Err(WentBack)
+        );
+        lower[0].1 = 9;
+        assert_eq!(state.snapshot(&snapshot_file(6, &lower), &[1], &digest(6)), Ok(()));
+        let misplaced = [names[1], names[0], names[4]];
+        assert_eq!(
+            state.snapshot(&snapshot_file(6, &misplaced), &[1], &digest(6)),
+            Err(NotCanonical)
+        );
+    }
+
+    #[test]
+    fn skipping_roots_because_a_later_one_is_fully_signed() {
+        let mut state = installed(&Root::new(1));
+        assert_eq!(
+            state.root(&Root::new(3).file(&[1, 2]), &[1, 1], &[1, 1]),
+            Err(WrongVersion)
+        );
+        assert_eq!(state.root(&Root::new(2).file(&[1, 2]), &[1, 1], &[1, 1]), Ok(()));
+        assert_eq!(state.root(&Root::new(3).file(&[1, 2]), &[1, 1], &[1, 1]), Ok(()));
+    }
+
+    #[test]
+    fn refusing_an_expired_root_in_the_middle_of_the_chain() {
+        let mut expired = Root::new(2);
+        expired.expires = "1970-01-01T00:00:00Z";
+        let mut state = installed(&Root::new(1));
+        assert_eq!(state.root(&expired.file(&[1]), &[1], &[1]), Ok(()));
+        assert_eq!(state.timestamp(&timestamp_file(1, 1), &[1]), Err(HeldExpired));
+        assert_eq!(state.root(&Root::new(3).file(&[1]), &[1], &[1]), Ok(()));
+        assert_eq!(state.timestamp(&timestamp_file(1, 1), &[1]), Ok(()));
+        let old = State::install(&expired.file(&[1]), &[1], NOW);
+        assert!(old.is_ok(), "an expired first root may be installed too");
+    }
+
+    #[test]
+    fn dividing_toward_zero_before_1970() {
+        let expires = "1969-12-31T23:59:59Z";
+        let early = file(&[5], &shelf::timestamp(1, expires, r#""version":1"#));
+        for (start, answer) in [(-2, Ok(())), (-1, Err(OfferedExpired)), (0, Err(OfferedExpired))] {
+            let mut state = installed(&Root::new(1));
+            state.cycle(start);
+            assert_eq!(state.timestamp(&early, &[1]), answer, "{start}");
+        }
+    }
+}
+
+mod steps {
+    use super::*;
+
+    #[test]
+    fn a_refused_install_is_blank_and_no_call_after_it_holds_anything() {
+        assert_eq!(State::install(b"", &[], 7), Err(NotCanonical));
+        let mut state = State::blank();
+        assert_eq!(state.time, i64::MIN);
+        state.cycle(7);
+        assert_eq!(state.root(&Root::new(2).file(&[1]), &[1], &[1]), Err(NotHeld));
+        assert_eq!(state.timestamp(&timestamp_file(1, 1), &[1]), Err(NotHeld));
+        assert_eq!(
+            state.snapshot(&snapshot_file(1, &[("targets.json", 1)]), &[1], &digest(1)),
+            Err(NotHeld)
+        );
+        assert_eq!(state.targets(&targets_file(1), &[1], &digest(1)), Err(NotHeld));
+        assert_eq!(found(&state, b"image"), Err(NotHeld));
+        assert_eq!(state.key(keyid(1).as_bytes()), Err(NotHeld));
+        assert_eq!(state.timestamp(&timestamp_file(1, 1), &[]), Err(BrokenArgument));
+        assert_eq!(
+            state,
+            State {
+                time: 7,
+                ..State::blank()
+            }
+        );
+    }
+
+    #[test]
+    fn an_install_begins_a_new_history() {
+        let again = State::install(&Root::new(1).file(&[1]), &[1], -5).unwrap();
+        assert_eq!((again.time, &again.timestamp), (-5, &None));
+        assert_eq!(complete().root, again.root);
+    }
+
+    #[test]
+    fn rows_have_a_verdict_for_each_entry() {
+        let root = Root::new(1).file(&[1, 2]);
+        for row in [&[1][..], &[1, 1, 1], &[1, 2], &[255, 1], &[]] {
+            assert_eq!(State::install(&root, row, NOW), Err(BrokenArgument), "{row:?}");
+            let next = Root::new(2).file(&[1, 2]);
+            assert_eq!(complete().root(&next, row, &[1, 1]), Err(BrokenArgument), "{row:?}");
+            assert_eq!(complete().root(&next, &[1, 1], row), Err(BrokenArgument), "{row:?}");
+        }
+    }
+
+    #[test]
+    fn rotated_keys_drop_records() {
+        type Change = fn(&mut Root);
+        let changes: [(Change, [bool; 3]); 7] = [
+            (|_| (), [true, true, true]),
+            (|root| root.root = (vec![2, 6], 2), [true, true, true]),
+            (|root| root.timestamp.0 = vec![5, 6], [false, false, false]),
+            (|root| root.snapshot.0 = vec![6], [false, false, false]),
+            (|root| root.targets.0 = vec![4, 6], [true, true, false]),
+            (|root| root.keys.retain(|key| *key != 6), [true, true, true]),
+            (|root| root.expires = "2031-01-01T00:00:00Z", [true, true, true]),
+        ];
+        for (number, (change, kept)) in changes.into_iter().enumerate() {
+            let mut state = complete();
+            let mut root = Root::new(2);
+            change(&mut root);
+            assert_eq!(state.root(&root.file(&[1, 2, 6]), &[1, 0, 0], &[0, 1, 1]), Ok(()));
+            let held = [
+                state.timestamp.is_some(),
+                state.snapshot.is_some(),
+                state.targets.is_some(),
+            ];
+            assert_eq!(held, kept, "{number}");
+        }
+    }
+
+    #[test]
+    fn order_and_threshold_of_keyids_are_no_rotation() {
+        let mut first = Root::new(1);
+        first.timestamp = (vec![5, 6], 1);
+        let mut state = installed(&first);
+        assert_eq!(state.timestamp(&timestamp_file(1, 1), &[1]), Ok(()));
+        let mut second = first.clone();
+        second.version = 2;
+        second.timestamp = (vec![6, 5], 2);
+        assert_eq!(state.root(&second.file(&[1]), &[1], &[1]), Ok(()));
+        assert!(state.timestamp.is_some());
+    }
+
+    #[test]
+    fn timestamps_do_not_fall() {
+        let mut state = complete();
+        assert_eq!(state.timestamp(&timestamp_file(2, 6), &[1]), Err(WrongVersion));
+        assert_eq!(state.timestamp(&timestamp_file(3, 6), &[1]), Err(NoNews));
+        assert_eq!(state.timestamp(&timestamp_file(4, 4), &[1]), Err(WentBack));
+        assert_eq!(state.timestamp(&timestamp_file(4, 5), &[1]), Ok(()));
+    }
+
+    #[test]
+    fn snapshots_do_not_fall() {
+        let mut state = complete();
+        assert_eq!(state.timestamp(&timestamp_file(4, 6), &[1]), Ok(()));
+        for (version, names, answer) in [
+            (5, &[("a", 9), ("targets.json", 7)][..], Err(WrongVersion)),
+            (7, &[("a", 9), ("targets.json", 7)], Err(WrongVersion)),
+            (6, &[("targets.json", 7)], Err(WentBack)),
+            (6, &[("a", 8), ("targets.json", 7)], Err(WentBack)),
+            (6, &[("a", 9), ("targets.json", 6)], Err(WentBack)),
+            (6, &[("a", 9), ("b", 1), ("targets.json", 7)], Ok(())),
+        ] {
+            assert_eq!(
+                state.snapshot(&snapshot_file(version, names), &[1], &digest(6)),
+                answer,
+                "{names:?}"
+            );
+        }
+    }
+
+    #[test]
+    fn length_and_digest_where_listed() {
+        let listings: [(String, [Result<(), Refusal>; 3]); 4] = [
+            (String::new(), [Ok(()), Ok(()), Ok(())]),
+            (r#""length":LENGTH,"#.to_string(), [Ok(()), Err(Differs), Ok(())]),
+            (
+                r#""hashes":{"sha256":"DIGEST"},"#.to_string(),
+                [Ok(()), Ok(()), Err(Differs)],
+            ),
+            (
+                r#""hashes":{"sha256":"DIGEST"},"length":LENGTH,"#.to_string(),
+                [Ok(()), Err(Differs), Err(Differs)],
+            ),
+        ];
+        let sound = snapshot_file(1, &[("targets.json", 1)]);
+        let longer = snapshot_file(1, &[("b", 1), ("targets.json", 1)]);
+        for (listing, answers) in listings {
+            let listed = listing
+                .replace("LENGTH", &sound.len().to_string())
+                .replace("DIGEST", &hex::written(&digest(1)));
+            let listed = format!(r#"{listed}"version":1"#);
+            let offers = [(&sound, digest(1)), (&longer, digest(1)), (&sound, digest(2))];
+            for ((offered, digest), answer) in offers.into_iter().zip(answers) {
+                let mut state = installed(&Root::new(1));
+                assert_eq!(
+                    state.timestamp(&file(&[5], &shelf::timestamp(1, EXPIRES, &listed)), &[1]),
+                    Ok(())
+                );
+                assert_eq!(state.snapshot(offered, &[1], &digest), answer, "{listed}");
+            }
+        }
+    }
+
+    #[test]
+    fn snapshot_and_targets_have_to_be_current() {
+        let mut state = complete();
+        assert_eq!(found(&state, b"image"), Ok((0, hex::written(&digest(1)))));
+        assert_eq!(state.timestamp(&timestamp_file(4, 6), &[1]), Ok(()));
+        assert_eq!(found(&state, b"image"), Err(NotHeld));
+        assert_eq!(state.targets(&targets_file(7), &[1], &digest(7)), Err(NotHeld));
+        let newer = snapshot_file(6, &[("a", 9), ("targets.json", 8)]);
+        assert_eq!(state.snapshot(&newer, &[1], &digest(6)), Ok(()));
+        assert_eq!(found(&state, b"image"), Err(NotHeld));
+        assert_eq!(state.targets(&targets_file(7), &[1], &digest(7)), Err(WrongVersion));
+        assert_eq!(state.targets(&targets_file(8), &[1], &digest(7)), Ok(()));
+        assert_eq!(found(&state, b"image"), Ok((0, hex::written(&digest(1)))));
+    }
+
+    #[test]
+    fn records_leaned_on_have_not_expired() {
+        let mut state = complete();
+        state.cycle(1_893_456_000);
+        assert_eq!(found(&state, b"image"), Err(HeldExpired));
+        assert_eq!(state.timestamp(&timestamp_file(4, 6), &[1]), Err(HeldExpired));
+        let newer = snapshot_file(6, &[("targets.json", 8)]);
+        assert_eq!(state.snapshot(&newer, &[1], &digest(6)), Err(HeldExpired));
+        assert_eq!(state.targets(&targets_file(7), &[1], &digest(7)), Err(HeldExpired));
+        state.cycle(1_893_455_999);
+        assert_eq!(found(&state, b"image"), Ok((0, hex::written(&digest(1)))));
+        let expired = snapshot_expiring(5, "2020-01-01T00:00:00Z", &[("a", 9), ("targets.json", 7)]);
+        assert_eq!(state.snapshot(&expired, &[1], &digest(5)), Err(OfferedExpired));
+    }
+
+    #[test]
+    fn paths_are_compared_with_escapes_undone() {
+        let state = complete();
+        assert_eq!(found(&state, br#"a"b\"#), Ok((4_294_967_295, hex::written(&digest(1)))));
+        for path in [
+            &br#"a\"b\\"#[..],
+            b"",
+            b"imag",
+            b"image ",
+            b"Image",
+            b"\xff",
+            &[b'x'; 129],
+        ] {
+            assert_eq!(found(&state, path), Err(NotListed), "{path:?}");
+        }
+    }
+
+    #[test]
+    fn keys_of_the_held_root() {
+        let state = complete();
+        assert_eq!(state.key(keyid(6).as_bytes()), Ok(public(6).as_str()));
+        for asked in [
+            keyid(7),
+            keyid(6).to_uppercase(),
+            keyid(6) + "0",
+            String::new(),
+            keyid(6)[1..].to_string(),
+        ] {
+            assert_eq!(state.key(asked.as_bytes()), Err(NotListed), "{asked}");
+        }
+    }
+
+    #[test]
+    fn images_are_what_was_found() {
+        let (one, other) = (digest(1), digest(2));
+        assert_eq!(image((7, &one), (7, &one)), Ok(()));
+        assert_eq!(image((7, &one), (8, &one)), Err(Differs));
+        assert_eq!(image((7, &one), (7, &other)), Err(Differs));
+        assert_eq!(image((7, &one[..31]), (7, &one[..31])), Err(BrokenArgument));
+        assert_eq!(image((7, &one), (8, &[1; 33])), Err(BrokenArgument));
+    }
+}
+
+mod broken_forms {
+    use super::*;
+
+    type Reader = fn(&[u8]) -> Result<(), Refusal>;
+
+    const ROOT: Reader = |file| forms::root(file).map(|_| ());
+    const TIMESTAMP: Reader = |file| forms::timestamp(file).map(|_| ());
+    const SNAPSHOT: Reader = |file| forms::snapshot(file).map(|_| ());
+    const TARGETS: Reader = |file| forms::targets(file).map(|_| ());
+
+    /// Reads the signed part with each pair's first text replaced by its second, which has to end with the answer.
+    fn replaced(reader: Reader, signed: &str, answer: Result<(), Refusal>, pairs: &[(&str, &str)]) {
+        assert_eq!(reader(&file(&[1], signed)), Ok(()), "{signed}");
+        for (old, new) in pairs {
+            assert!(signed.contains(old), "{old}");
+            let text = signed.replacen(old, new, 1);
+            assert_eq!(reader(&file(&[1], &text)), answer, "{text}");
+        }
+    }
+
+    #[test]
+    fn of_every_role() {
+        let targets = shelf::targets(1, EXPIRES, "");
+        let listed = r#""version":1"#;
+        let files = [
+            (ROOT, Root::new(1).signed()),
+            (TIMESTAMP, shelf::timestamp(1, EXPIRES, listed)),
+            (SNAPSHOT, shelf::snapshot(1, EXPIRES, r#""targets.json":{"version":1}"#)),
+            (TARGETS, targets.clone()),
+        ];
+        for (reader, signed) in &files {
+            let broken = [
+                ("_type\":\"", "_type\":\"x"),
+                ("\"_type\"", "\"_typf\""),
+                ("spec_version\":\"1", "spec_versio!\":\"1"),
+                ("expires\":\"2030", "expires\":\"203"),
+                ("T00:00:00Z", "T24:00:00Z"),
+            ];
+            replaced(*reader, signed, Err(BrokenForm), &broken);
+            let versions = [
+                "\"version\":0}",
+                "\"version\":-1}",
+                "\"version\":2147483648}",
+                "\"version\":99999999999999999999999}",
+                "\"version\":\"1\"}",
+                "\"version!\":1}",
+            ];
+            for version in versions {
+                let text = format!("{}{version}", signed.strip_suffix("\"version\":1}").unwrap());
+                assert_eq!(reader(&file(&[1], &text)), Err(BrokenForm), "{text}");
+            }
+        }
+        assert_eq!(ROOT(&file(&[1], &targets)), Err(BrokenForm));
+    }
+
+    #[test]
+    fn of_spec_version() {
+        let signed = shelf::targets(1, EXPIRES, "");
+        let with =
+            |spec_version: &str| signed.replace(r#""spec_version":"1""#, &format!(r#""spec_version":{spec_version}"#));
+        for sound in [r#""1""#, r#""1.""#, r#""1.0.26""#, r#""1.x""#] {
+            assert_eq!(TARGETS(&file(&[], &with(sound))), Ok(()), "{sound}");
+        }
+        for other in [
+            r#""""#,
+            r#""2""#,
+            r#""10""#,
+            r#""1 ""#,
+            r#"" 1""#,
+            r#""1,0""#,
+            r#""01.0""#,
+            r#"".1""#,
+        ] {
+            assert_eq!(TARGETS(&file(&[], &with(other))), Err(SpecVersion), "{other}");
+            let broken = with(other).replace("\"version\":1", "\"version\":0");
+            assert_eq!(TARGETS(&file(&[], &broken)), Err(BrokenForm), "{other}");
+        }
+        for broken in ["1", "null", r#"["1"]"#, "true"] {
+            assert_eq!(TARGETS(&file(&[], &with(broken))), Err(BrokenForm), "{broken}");
+        }
+    }
+
+    #[test]
+    fn of_roots() {
+        let signed = Root::new(1).signed();
+        let pairs = [
+            ("\"consistent_snapshot\":false", "\"consistent_snapshot\":0"),
+            ("\"consistent_snapshot\":false", "\"consistent_snapshou\":false"),
+            ("\"keytype\":\"ed25519\"", "\"keytype\":\"rsa\""),
+            ("\"scheme\":\"ed25519\"", "\"scheme\":\"ed25518\""),
+            ("\"public\":\"01", "\"public\":\"1"),
+            ("\"public\":\"01", "\"public\":\"0A"),
+            ("\"public\":\"01", "\"public\":\"02"),
+            ("\"01", "\"00"),
+            ("\"roles\":{\"root\"", "\"roles\":{\"roos\""),
+            ("\"keyids\":[\"01", "\"keyids\":[\"02"),
+            ("\"keyids\":[\"01", "\"keyids\":[\"07"),
+            ("\"threshold\":1", "\"threshold\":0"),
+            ("\"threshold\":1", "\"threshold\":3"),
+            ("\"threshold\":1", "\"threshold\":18446744073709551617"),
+        ];
+        replaced(ROOT, &signed, Err(BrokenForm), &pairs);
+        let passed_over = [
+            ("\"roles\":{\"root\"", "\"roles\":{\"mirrors\":0,\"root\""),
+            ("\"threshold\":1", "\"threshold\":2"),
+            ("\"consistent_snapshot\":false", "\"consistent_snapshot\":true"),
+            ("\"keyval\":{", "\"keyval\":{\"private\":\"\","),
+            ("\"_type\"", "\"\":[],\"_type\""),
+        ];
+        replaced(ROOT, &signed, Ok(()), &passed_over);
+    }
+
+    #[test]
+    fn of_roots_with_many_keys() {
+        let mut root = Root::new(1);
+        root.keys = (1..=16).collect();
+        root.targets = (root.keys.clone(), 16);
+        assert_eq!(ROOT(&root.file(&[1])), Ok(()));
+        root.targets.1 = 17;
+        assert_eq!(ROOT(&root.file(&[1])), Err(BrokenForm));
+        root.targets.1 = 16;
+        root.keys.push(17);
+        assert_eq!(ROOT(&root.file(&[1])), Err(BrokenForm));
+        root.keys.clear();
+        root.targets.0.clear();
+        assert_eq!(ROOT(&root.file(&[1])), Err(BrokenForm));
+    }
+
+    #[test]
+    fn of_listed_files() {
+        let sha256 = hex::written(&digest(1));
+        let with = |listed: &str| file(&[], &shelf::timestamp(1, EXPIRES, listed));
+        for sound in [
+            r#""version":2147483647"#.to_string(),
+            r#""length":0,"version":1"#.to_string(),
+            r#""length":4294967295,"version":1"#.to_string(),
+            format!(r#""hashes":{{"md5":0,"sha256":"{sha256}","sha512":[]}},"version":1,"x":0"#),
+        ] {
+            assert_eq!(TIMESTAMP(&with(&sound)), Ok(()), "{sound}");
+        }
+        for broken in [
+            "".to_string(),
+            r#""version":2147483648"#.to_string(),
+            r#""length":-1,"version":1"#.to_string(),
+            r#""length":4294967296,"version":1"#.to_string(),
+            r#""length":null,"version":1"#.to_string(),
+            r#""hashes":{},"version":1"#.to_string(),
+            r#""hashes":null,"version":1"#.to_string(),
+            format!(r#""hashes":{{"sha256":"{}"}},"version":1"#, &sha256[1..]),
+            format!(r#""hashes":{{"sha512":"{sha256}"}},"version":1"#),
+            format!(r#""hashes":{{"sha256":"{}"}},"version":1"#, sha256.replace('1', "A")),
+        ] {
+            assert_eq!(TIMESTAMP(&with(&broken)), Err(BrokenForm), "{broken}");
+        }
+        let other = shelf::timestamp(1, EXPIRES, r#""version":1"#).replace("snapshot.json", "snapshot.jso");
+        assert_eq!(TIMESTAMP(&file(&[], &other)), Err(BrokenForm));
+        let further = shelf::timestamp(1, EXPIRES, r#""version":1},"x":{"version":1"#);
+        assert_eq!(TIMESTAMP(&file(&[], &further)), Err(BrokenForm));
+    }
+
+    #[test]
+    fn of_names() {
+        let snapshot = |names: &[String]| {
+            let mut names: Vec<String> = names
+                .iter()
+                .map(|name| format!(r#""{name}":{{"version":1}}"#))
+                .collect();
+            names.sort();
+            SNAPSHOT(&file(&[], &shelf::snapshot(1, EXPIRES, &names.join(","))))
+        };
+        let named = |name: &str| snapshot(&["targets.json".to_string(), name.to_string()]);
+        assert_eq!(snapshot(&["target.json".to_string()]), Err(BrokenForm));
+        assert_eq!(snapshot(&[]), Err(BrokenForm));
+        assert_eq!(named(""), Err(BrokenForm));
+        assert_eq!(named(&"x".repeat(32)), Ok(()));
+        assert_eq!(named(&"x".repeat(33)), Err(BrokenForm));
+        assert_eq!(named(&r"\\".repeat(32)), Ok(()));
+        assert_eq!(named(&r"\\".repeat(33)), Err(BrokenForm));
+        let many = |count: usize| {
+            let names = (1..count).map(|number| format!("{number:02}"));
+            names.chain(["targets.json".to_string()]).collect::<Vec<_>>()
+        };
+        assert_eq!(snapshot(&many(32)), Ok(()));
+        assert_eq!(snapshot(&many(33)), Err(BrokenForm));
+    }
+
+    #[test]
+    fn of_targets() {
+        let sha256 = hex::written(&digest(1));
+        let with = |table: &str| TARGETS(&file(&[], &shelf::targets(1, EXPIRES, table)));
+        assert_eq!(with(&shelf::target(&"x".repeat(128), 0, &sha256)), Ok(()));
+        assert_eq!(with(&shelf::target(&"\\\"".repeat(128), 0, &sha256)), Ok(()));
+        assert_eq!(with(&shelf::target(&"x".repeat(129), 0, &sha256)), Err(BrokenForm));
+        assert_eq!(with(&shelf::target("", 0, &sha256)), Err(BrokenForm));
+        assert_eq!(with(&shelf::target("x", 4_294_967_296, &sha256)), Err(BrokenForm));
+        assert_eq!(with(r#""x":{"length":1}"#), Err(BrokenForm));
+        assert_eq!(
+            with(&format!(r#""x":{{"hashes":{{"sha256":"{sha256}"}}}}"#)),
+            Err(BrokenForm)
+        );
+        assert_eq!(
+            with(&format!(
+                r#""x":{{"hashes":{{"sha256":"{sha256}"}},"length":1,"version":0}}"#
+            )),
+            Ok(())
+        );
+        let many = |count: usize| {
+            let targets: Vec<String> = (0..count)
+                .map(|number| shelf::target(&format!("{number:03}"), 0, &sha256))
+                .collect();
+            targets.join(",")
+        };
+        assert_eq!(with(&many(256)), Ok(()));
+        assert_eq!(with(&many(257)), Err(BrokenForm));
+    }
+}

@@ -1,0 +1,424 @@
+//! The limits of the forms: lengths of files, counts of entries, keys, keyids and names, bytes of names, ranges of
+//! numbers. Every answer is known from document 01.
+
+use std::collections::BTreeMap;
+
+use super::forms::{self, Kind, Stage, valid};
+use super::{Recorder, all_of};
+use crate::calls::Call;
+use crate::compare::{Cases, Group};
+use crate::shelf::files::{self, HIGHEST_VERSION, Header, LONGEST, Listed, Role, Root, Snapshot, Targets};
+use crate::shelf::sha256::digest;
+use crate::shelf::tree::{Tree, number, object};
+
+const LATER: i64 = 2_000_000_000;
+
+/// A valid file is accepted; a file that breaks a limit has a broken form, or is too long.
+const ACCEPTED: u8 = 0;
+const TOO_LONG: u8 = 1;
+const NOT_CANONICAL: u8 = 2;
+const BROKEN: u8 = 3;
+
+/// The groups.
+pub fn groups() -> Vec<Group> {
+    vec![Group {
+        name: "forms, limits",
+        calls: &[
+            "look",
+            "entry",
+            "install",
+            "cycle",
+            "root",
+            "timestamp",
+            "snapshot",
+            "targets",
+            "find",
+            "key",
+            "state",
+        ],
+        cases: |_| limits(),
+        least: 1_000,
+        shares: &[
+            ("install 3", 1),
+            ("timestamp 3", 1),
+            ("snapshot 3", 1),
+            ("targets 3", 1),
+            ("find 0", 1),
+        ],
+        complete: &[],
+        renewed: false,
+    }]
+}
+
+fn limits() -> Cases {
+    let mut script = Recorder::default();
+    lengths(&mut script);
+    entries(&mut script);
+    keys(&mut script);
+    keyids(&mut script);
+    counts_of_names(&mut script);
+    bytes_of_names(&mut script);
+    numbers(&mut script);
+    depths(&mut script);
+    all_of(script.take())
+}
+
+const KINDS: [Kind; 4] = [Kind::Root, Kind::Timestamp, Kind::Snapshot, Kind::Targets];
+
+/// A valid file that its stage accepts.
+fn acceptable(kind: Kind) -> Tree {
+    valid(kind, if kind == Kind::Root { 2 } else { 1 })
+}
+
+/// Tries a file on its stage; a root as a first one too.
+fn tried(script: &mut Recorder, kind: Kind, file: &Tree, answer: u8) {
+    Stage::new(kind).play(script, file, Some(answer));
+    if kind == Kind::Root {
+        script.stated(forms::install(file), format!("install {answer}"));
+    }
+}
+
+/// "32,768 bytes may pass, 32,769 is 1."
+fn lengths(script: &mut Recorder) {
+    for kind in KINDS {
+        let file = acceptable(kind);
+        for in_signed in [false, true] {
+            for (length, answer) in [
+                (LONGEST - 1, ACCEPTED),
+                (LONGEST, ACCEPTED),
+                (LONGEST + 1, TOO_LONG),
+                (140_000, TOO_LONG),
+            ] {
+                let bytes = files::padded(&file, length, in_signed);
+                script.stated(Call::Look(bytes.clone()), format!("look {answer}"));
+                let call = Call::Entry {
+                    file: bytes.clone(),
+                    place: 1,
+                };
+                script.stated(call, format!("entry {answer}"));
+                Stage::new(kind).play_bytes(script, bytes.clone(), 2, Some(answer));
+                if kind == Kind::Targets {
+                    script.open(Call::Cycle(0));
+                    script.stated(forms::find(&bytes, "image"), format!("find {answer}"));
+                }
+            }
+        }
+    }
+}
+
+/// "at most 16 entries"
+fn entries(script: &mut Recorder) {
+    for kind in KINDS {
+        for (count, answer) in [
+            (1, ACCEPTED),
+            (15, ACCEPTED),
+            (16, ACCEPTED),
+            (17, BROKEN),
+            (40, BROKEN),
+        ] {
+            let mut file = acceptable(kind);
+            let entries = file.member(&["signatures"]).items();
+            entries.truncate(1);
+            entries.extend((1..count).map(|place| files::entry(20 + place, place)));
+            script.stated(Call::Look(file.written()), format!("look {answer}"));
+            for place in [0, 14, 15, 16] {
+                let number = match answer {
+                    ACCEPTED if place >= count as u64 => 15,
+                    _ => answer,
+                };
+                let file = file.written();
+                script.stated(Call::Entry { file, place }, format!("entry {number}"));
+            }
+            tried(script, kind, &file, answer);
+        }
+    }
+}
+
+fn root(change: impl FnOnce(&mut Root)) -> Tree {
+    let mut root = Root::new(2, LATER);
+    change(&mut root);
+    files::file(root.signed(), &[1, 2])
+}
+
+/// ""keys", 1 to 16", no two "with the same public value"
+fn keys(script: &mut Recorder) {
+    for (count, answer) in [
+        (8, ACCEPTED),
+        (15, ACCEPTED),
+        (16, ACCEPTED),
+        (17, BROKEN),
+        (18, BROKEN),
+    ] {
+        let file = root(|root| root.keys = (1..=count).map(|key| (key, key)).collect());
+        tried(script, Kind::Root, &file, answer);
+        for key in [1, 8, 15, 16, 17] {
+            script.open(Call::Key(files::keyid(key).into()));
+        }
+    }
+    let one = root(|root| {
+        root.keys = BTreeMap::from([(1, 1)]);
+        for role in [
+            &mut root.root,
+            &mut root.timestamp,
+            &mut root.snapshot,
+            &mut root.targets,
+        ] {
+            *role = Role::new([1], 1);
+        }
+    });
+    tried(script, Kind::Root, &one, ACCEPTED);
+    for (key, value) in [(1, 2), (2, 1), (1, 8), (8, 1), (7, 8), (16, 15), (16, 1)] {
+        let file = root(|root| {
+            root.keys = (1..=16).map(|key| (key, key)).collect();
+            root.keys.insert(key, value);
+        });
+        tried(script, Kind::Root, &file, BROKEN);
+    }
+}
+
+/// "each with 1 to 16 different keyids from the key table and a threshold from 1 to the number of those keyids"
+fn keyids(script: &mut Recorder) {
+    let roles: [fn(&mut Root) -> &mut Role; 4] = [
+        |root| &mut root.root,
+        |root| &mut root.timestamp,
+        |root| &mut root.snapshot,
+        |root| &mut root.targets,
+    ];
+    for role in roles {
+        let mut tried = |keys: Vec<usize>, threshold: u64, table: usize, answer: u8| {
+            let file = root(|root| {
+                root.keys = (1..=table).map(|key| (key, key)).collect();
+                *role(root) = Role::new(keys, threshold);
+            });
+            tried(script, Kind::Root, &file, answer);
+        };
+        let all = |count: usize| (1..=count).collect::<Vec<_>>();
+        tried(all(16), 1, 16, ACCEPTED);
+        tried(all(16).into_iter().rev().collect(), 2, 16, ACCEPTED);
+        tried(all(17), 1, 17, BROKEN);
+        tried([all(16), vec![1]].concat(), 1, 16, BROKEN);
+        tried([all(16), vec![17]].concat(), 1, 16, BROKEN);
+        tried(vec![], 0, 16, BROKEN);
+        tried(vec![], 1, 16, BROKEN);
+        tried(vec![1, 1], 1, 16, BROKEN);
+        tried(vec![1, 2, 1], 1, 16, BROKEN);
+        tried(vec![1, 17], 1, 16, BROKEN);
+        for (threshold, answer) in [
+            (0, BROKEN),
+            (1, ACCEPTED),
+            (2, ACCEPTED),
+            (3, BROKEN),
+            (u64::MAX, BROKEN),
+        ] {
+            tried(vec![1, 2], threshold, 16, answer);
+        }
+    }
+}
+
+fn snapshot_of(names: impl IntoIterator<Item = String>) -> Tree {
+    let names = names.into_iter().map(|name| (name, Listed::version(1)));
+    let snapshot = Snapshot {
+        header: Header::new(1, LATER),
+        meta: names.collect(),
+    };
+    files::file(snapshot.signed(), &[5])
+}
+
+fn targets_of(names: impl IntoIterator<Item = String>) -> Tree {
+    let names = names
+        .into_iter()
+        .zip(1..)
+        .map(|(name, length)| (name, (length, digest(b"image"))));
+    let targets = Targets {
+        header: Header::new(1, LATER),
+        targets: names.collect(),
+    };
+    files::file(targets.signed(), &[7])
+}
+
+/// "1 to 32 names", "`targets.json` among them"; "0 to 256 names"
+fn counts_of_names(script: &mut Recorder) {
+    let targets_json = || "targets.json".to_string();
+    let numbered = |count: usize| (0..count).map(|number| format!("{number:03}"));
+    for (count, answer) in [
+        (0, ACCEPTED),
+        (1, ACCEPTED),
+        (30, ACCEPTED),
+        (31, ACCEPTED),
+        (32, BROKEN),
+        (33, BROKEN),
+    ] {
+        let file = snapshot_of(numbered(count).chain([targets_json()]));
+        tried(script, Kind::Snapshot, &file, answer);
+        tried(script, Kind::Snapshot, &snapshot_of(numbered(count)), BROKEN);
+    }
+    for (count, answer) in [
+        (0, ACCEPTED),
+        (1, ACCEPTED),
+        (255, ACCEPTED),
+        (256, ACCEPTED),
+        (257, BROKEN),
+        (258, BROKEN),
+    ] {
+        let file = targets_of(numbered(count));
+        tried(script, Kind::Targets, &file, answer);
+        script.open(Call::Cycle(0));
+        for number in [0, 1, 127, 254, 255, 256, 257] {
+            let listed = answer == ACCEPTED && number < count;
+            let path = format!("{number:03}");
+            let answer = match (answer, listed) {
+                (BROKEN, _) => "find 3".to_string(),
+                (_, true) => format!("find 0 {}", number + 1),
+                (_, false) => "find 15 0".to_string(),
+            };
+            script.stated(forms::find(&file.written(), &path), answer);
+        }
+    }
+    let further = |name: &str| {
+        let mut file = acceptable(Kind::Timestamp);
+        let meta = file.member(&["signed", "meta"]);
+        meta.insert(name, object([("version", number(1))]));
+        file
+    };
+    for name in ["a", "root.json", "snapshot.jsoo", "targets.json", "~"] {
+        tried(script, Kind::Timestamp, &further(name), BROKEN);
+    }
+}
+
+/// Names of so many bytes: plain, of two characters that are escaped, of longer characters, and mixed.
+fn names_of(bytes: usize) -> Vec<String> {
+    let filled = |filling: &str| {
+        let count = bytes / filling.len();
+        filling.repeat(count) + &"x".repeat(bytes - count * filling.len())
+    };
+    let mut names: Vec<String> = ["x", "\"", "\\", "\\\"", "\u{e4}", "\u{20ac}", "\u{1f600}", "a\\b\""]
+        .into_iter()
+        .map(filled)
+        .collect();
+    names.sort();
+    names.dedup();
+    names
+}
+
+/// "names of 1 to 32 bytes", "names of 1 to 128 bytes": counted after the escapes are undone.
+fn bytes_of_names(script: &mut Recorder) {
+    for bytes in [0, 1, 2, 16, 17, 31, 32, 33, 64, 65, 128] {
+        for name in names_of(bytes) {
+            assert_eq!(name.len(), bytes);
+            let answer = if (1..=32).contains(&bytes) { ACCEPTED } else { BROKEN };
+            let file = snapshot_of([name, "targets.json".to_string()]);
+            tried(script, Kind::Snapshot, &file, answer);
+        }
+    }
+    for bytes in [0, 1, 32, 33, 64, 65, 127, 128, 129, 130, 256, 257] {
+        for name in names_of(bytes) {
+            let answer = if (1..=128).contains(&bytes) { ACCEPTED } else { BROKEN };
+            let file = targets_of([name.clone()]);
+            tried(script, Kind::Targets, &file, answer);
+            script.open(Call::Cycle(0));
+            let found = if answer == ACCEPTED { "find 0 1" } else { "find 3 0" };
+            script.stated(forms::find(&file.written(), &name), found);
+            let escaped = super::names::escaped(&name);
+            if escaped != name {
+                let found = if answer == ACCEPTED { "find 15 0" } else { "find 3 0" };
+                script.stated(forms::find(&file.written(), &escaped), found);
+            }
+        }
+    }
+}
+
+/// Versions, lengths and spec_version at the ends of their ranges.
+fn numbers(script: &mut Recorder) {
+    for kind in KINDS {
+        let versions: [(&str, u8); 7] = [
+            ("0", BROKEN),
+            ("-1", BROKEN),
+            ("2147483647", 11),
+            ("2147483648", BROKEN),
+            ("4294967297", BROKEN),
+            ("18446744073709551617", BROKEN),
+            ("\"1\"", BROKEN),
+        ];
+        for (version, answer) in versions {
+            // A timestamp may have any version when none is held.
+            let answer = if kind == Kind::Timestamp && answer == 11 {
+                ACCEPTED
+            } else {
+                answer
+            };
+            let mut file = acceptable(kind);
+            *file.member(&["signed", "version"]) = Tree::Raw(version.to_string());
+            Stage::new(kind).play(script, &file, Some(answer));
+        }
+        for (spec_version, answer) in [
+            ("\"1\"", ACCEPTED),
+            ("\"1.\"", ACCEPTED),
+            ("\"1.\\\"\\\\\"", ACCEPTED),
+            ("\"1.0.26\"", ACCEPTED),
+            ("\"\"", 4),
+            ("\"10\"", 4),
+            ("\"1\\\\\"", 4),
+            ("\"2\"", 4),
+            ("\"1,0\"", 4),
+            ("\" 1\"", 4),
+            ("1", BROKEN),
+            ("null", BROKEN),
+        ] {
+            let mut file = acceptable(kind);
+            *file.member(&["signed", "spec_version"]) = Tree::Raw(spec_version.to_string());
+            tried(script, kind, &file, answer);
+            // A broken form is said before spec_version is judged, wherever it stands.
+            for broken in ["_type", "expires", "version"] {
+                let mut file = file.clone();
+                *file.member(&["signed", broken]) = number(0);
+                tried(script, kind, &file, BROKEN);
+            }
+        }
+    }
+    for (listed, answer) in [
+        (1, ACCEPTED),
+        (HIGHEST_VERSION, ACCEPTED),
+        (0, BROKEN),
+        (HIGHEST_VERSION + 1, BROKEN),
+        (1 << 32, BROKEN),
+        ((1 << 32) + 1, BROKEN),
+    ] {
+        let file = forms::timestamp(1, Listed::version(listed));
+        tried(script, Kind::Timestamp, &file, answer);
+        let file = forms::snapshot(1, Listed::version(listed));
+        tried(script, Kind::Snapshot, &file, answer);
+    }
+    for (length, answer) in [
+        (0, ACCEPTED),
+        (4_294_967_295, ACCEPTED),
+        (4_294_967_296, BROKEN),
+        (u64::MAX, BROKEN),
+    ] {
+        let mut listed = Listed::version(1);
+        listed.length = Some(length);
+        tried(script, Kind::Timestamp, &forms::timestamp(1, listed.clone()), answer);
+        tried(script, Kind::Snapshot, &forms::snapshot(1, listed), answer);
+        let mut file = acceptable(Kind::Targets);
+        *file.member(&["signed", "targets", "image", "length"]) = number(length);
+        tried(script, Kind::Targets, &file, answer);
+        script.open(Call::Cycle(0));
+        let found = if answer == ACCEPTED {
+            format!("find 0 {length} ")
+        } else {
+            "find 3 0 ".to_string()
+        };
+        script.stated(forms::find(&file.written(), "image"), found.trim_end());
+    }
+}
+
+/// "to depth 8; the outermost counts 1. Depth 9 is refused.": a member of the signed part begins at depth 3.
+fn depths(script: &mut Recorder) {
+    for kind in KINDS {
+        for (levels, answer) in [(5, ACCEPTED), (6, ACCEPTED), (7, NOT_CANONICAL), (100, NOT_CANONICAL)] {
+            let nested = format!("{}0{}", "[".repeat(levels), "]".repeat(levels));
+            let mut file = acceptable(kind);
+            file.member(&["signed"]).insert("~", Tree::Raw(nested));
+            tried(script, kind, &file, answer);
+        }
+    }
+}

@@ -1,0 +1,6 @@
+//! Makes files as a publisher would, and as no publisher should.
+
+pub mod dates;
+pub mod files;
+pub mod sha256;
+pub mod tree;
