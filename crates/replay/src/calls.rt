@@ -1,9 +1,8 @@
 // The calls of docs/REPLAY.md: each reads its arguments, calls the library and writes one line.
-use crate::arguments;
-use crate::arguments::Arguments;
-use crate::arguments::Problem;
 use crate::lines;
 use answers::Answer;
+use arguments::Arguments;
+use arguments::Problem;
 use date::Date;
 use tuf::State;
 use tuf::Step;
@@ -83,20 +82,16 @@ fn call_named(name: &[u8]) -> Call {
 fn arguments_of(call: Call, line: &[u8], bytes: &mut [u8]) -> Arguments {
     match call {
         Call::Unknown => arguments::none(Problem::Call),
-        Call::Text => arguments::read(b"b", line, bytes),
-        Call::Date => arguments::read(b"b", line, bytes),
-        Call::Look => arguments::read(b"b", line, bytes),
-        Call::Entry => arguments::read(b"bn", line, bytes),
-        Call::Key => arguments::read(b"b", line, bytes),
-        Call::Install => arguments::read(b"bbt", line, bytes),
-        Call::Cycle => arguments::read(b"t", line, bytes),
-        Call::Root => arguments::read(b"bbb", line, bytes),
-        Call::Timestamp => arguments::read(b"bb", line, bytes),
-        Call::Snapshot => arguments::read(b"bbb", line, bytes),
-        Call::Targets => arguments::read(b"bbb", line, bytes),
-        Call::Find => arguments::read(b"bbb", line, bytes),
-        Call::Image => arguments::read(b"nbnb", line, bytes),
         Call::State => arguments::read(b"", line, bytes),
+        Call::Cycle => arguments::read(b"t", line, bytes),
+        Call::Entry => arguments::read(b"bn", line, bytes),
+        Call::Timestamp => arguments::read(b"bb", line, bytes),
+        Call::Install => arguments::read(b"bbt", line, bytes),
+        Call::Image => arguments::read(b"nbnb", line, bytes),
+        Call::Text | Call::Date | Call::Look | Call::Key => arguments::read(b"b", line, bytes),
+        Call::Root | Call::Snapshot | Call::Targets | Call::Find => {
+            arguments::read(b"bbb", line, bytes)
+        }
     }
 }
 
@@ -159,6 +154,7 @@ fn ask(call: Call, state: State, a: Arguments, bytes: &[u8]) {
         Call::Key => lines::key(state.key(first)),
         Call::Find => play_find(state, a, bytes),
         Call::Image => play_image(a, bytes),
+        // `state`: the others do not come here
         _ => lines::versions(state.versions()),
     }
 }

@@ -1,6 +1,6 @@
 // The lines that are written: one for each call, or what is wrong with its line.
-use crate::arguments::Problem;
 use answers::Answer;
+use arguments::Problem;
 use date::Time;
 use inspect::EntryRead;
 use inspect::Looked;
@@ -42,7 +42,7 @@ pub fn too_long(number: u64) {
 
 pub fn problem(number: u64, problem: Problem) {
     match problem {
-        Problem::None => put_error(number, b"no problem"),
+        Problem::None => {}
         Problem::Call => put_error(number, b"unknown call"),
         Problem::Words => put_error(number, b"wrong number of words"),
         Problem::Bytes => put_error(number, b"bad bytes"),

@@ -1,5 +1,4 @@
 // Plays a script of calls, one to a line, and writes one line for each: docs/REPLAY.md. It works line by line in a bounded buffer.
-mod arguments;
 mod calls;
 mod lines;
 
@@ -9,9 +8,10 @@ ghost use lib.ListN.{length};
 use libc::STDIN_FILENO;
 use tuf::State;
 
-// The longest line, and the bytes of all arguments of one: three files of 1 MiB, and one byte by which a longer one is told.
+// Room for a line and its end.
 const LINE: usize = 524288;
 
+// Room for the bytes of a line's arguments: three of 1 MiB, and one byte more, by which a longer one is told.
 const BYTES: usize = 3145729;
 
 // ---- The script, line by line

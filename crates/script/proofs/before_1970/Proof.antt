@@ -2,7 +2,7 @@
 use borrow.Author.Needs.{needs}
 use mathlib.Core.Path.{sym, ap, _∙_}
 use Prim.Native.Nat.{_-_}
-use Rattle.script.specs.Numbers.{number, time, below, viewMoment}
+use Rattle.script.specs.Numbers.{below, viewMoment}
 use Rattle.json.specs.Fields.{keep}
 use mathlib.Core.Option.{some}
 use borrow.Author.Tests.{not-true, not-false}

@@ -2,7 +2,6 @@
 use borrow.Author.Needs.{needs}
 use Prim.Native.Nat.{_-_}
 use native.Mathlib.Omega.{arith}
-use Rattle.script.specs.Words.{first, behind}
 use Rattle.script.proofs.WordLaws as laws
 use Rattle.script.proofs.behind_space.Statement.{statement}
 use Rattle.script.proofs.behind_space.Tie as tie

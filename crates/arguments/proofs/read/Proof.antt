@@ -3,8 +3,8 @@ use mathlib.Core.Path.{_≡_}
 use Prim.Native.Nat.{_≤_, _-_}
 use lib.ListN.{length}
 use borrow.Author.Needs.{needs}
-use Rattle.replay.proofs.arguments.read.Statement.{statement}
-use Rattle.replay.proofs.arguments.read.Tie as tie
+use Rattle.arguments.proofs.read.Statement.{statement}
+use Rattle.arguments.proofs.read.Tie as tie
 
 abbrev Inv-loop : tie.InvT-loop
 Inv-loop kinds line bytes₀ read₀ at₀ i₀ bytes read at i = (i ≤ 4) × (length bytes ≡ length bytes₀)

@@ -3,8 +3,8 @@ use borrow.Author.Needs.{needs}
 use Prim.Native.Nat.{_-_}
 use native.Mathlib.Omega.{arith}
 use lib.ListN.{length-take}
-use Rattle.replay.proofs.arguments.hex_in.Statement.{statement}
-use Rattle.replay.proofs.arguments.hex_in.Tie as tie
+use Rattle.arguments.proofs.hex_in.Statement.{statement}
+use Rattle.arguments.proofs.hex_in.Tie as tie
 
 bad-requires : tie.Need-bad-requires
 bad-requires c κs = search needs

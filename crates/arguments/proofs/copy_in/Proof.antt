@@ -3,8 +3,8 @@ use mathlib.Core.Path.{_≡_}
 use Prim.Native.Nat.{_≤_, _-_}
 use lib.ListN.{length}
 use borrow.Author.Needs.{needs}
-use Rattle.replay.proofs.arguments.copy_in.Statement.{statement}
-use Rattle.replay.proofs.arguments.copy_in.Tie as tie
+use Rattle.arguments.proofs.copy_in.Statement.{statement}
+use Rattle.arguments.proofs.copy_in.Tie as tie
 
 abbrev Inv-loop : tie.InvT-loop
 Inv-loop from to₀ i₀ to i = (i ≤ length from) × (length from ≤ length to) × (length to ≡ length to₀)
