@@ -7,9 +7,17 @@
 //! module of inputs under [`groups`], and its name in the list of calls that are compared.
 
 pub mod calls;
+pub mod canonical;
 pub mod child;
 pub mod compare;
 pub mod groups;
 pub mod options;
 pub mod random;
 pub mod shelf;
+
+use std::path::PathBuf;
+
+/// The folder in which the scripts are played: that of the published examples, which some lines name as files.
+pub fn folder() -> PathBuf {
+    [env!("CARGO_MANIFEST_DIR"), "..", "published"].iter().collect()
+}

@@ -9,7 +9,7 @@ use side::groups;
 use side::options::{Options, USAGE};
 
 fn main() -> ExitCode {
-    let options = match Options::read(std::env::args().skip(1)) {
+    let mut options = match Options::read(std::env::args().skip(1)) {
         Ok(options) => options,
         Err(error) => return refuse(&format!("{error}\n{USAGE}")),
     };
@@ -32,6 +32,9 @@ fn main() -> ExitCode {
     if !options.all_calls {
         groups.retain(is_compared);
     }
+    if let Err(error) = enter_folder(&mut options) {
+        return refuse(&error);
+    }
     match run_all(&groups, &options) {
         Ok(failed) => conclude(groups.len() - failed, failed),
         Err(error) => {
@@ -48,6 +51,14 @@ fn is_compared(group: &Group) -> bool {
         println!("{}: left out, not compared yet: {}", group.name, missing.join(", "));
     }
     missing.is_empty()
+}
+
+/// Goes to the folder in which the scripts are played. Replay is still found where it was meant.
+fn enter_folder(options: &mut Options) -> Result<(), String> {
+    let replay = std::path::absolute(&options.replay);
+    options.replay = replay.map_err(|error| error.to_string())?;
+    let folder = side::folder();
+    std::env::set_current_dir(&folder).map_err(|error| format!("{}: {error}", folder.display()))
 }
 
 /// Prints the script of each group.

@@ -1,54 +1,122 @@
 //! The lines of a script themselves: what is a call, what is passed over, what is an error.
-
-use paper::hex;
+//!
+//! What docs/REPLAY.md leaves open is left out: an empty word, a number with idle zeros, what no program has to hold.
 
 use super::all_of;
 use crate::calls::Line;
 use crate::compare::{Case, Cases, Group};
-use crate::shelf::files::{self, Root};
 
-/// The group.
+/// The groups: one for the calls that hold nothing, one for all.
 pub fn groups() -> Vec<Group> {
-    vec![Group {
-        name: "script, lines",
-        calls: &[
-            "text",
-            "date",
-            "look",
-            "entry",
-            "key",
-            "install",
-            "cycle",
-            "root",
-            "timestamp",
-            "snapshot",
-            "targets",
-            "find",
-            "image",
-            "state",
-        ],
-        cases: |_| lines(),
-        least: 100,
-        shares: &[("error", 10), ("cycle 0", 5)],
-        complete: &[],
-        renewed: false,
-    }]
+    vec![
+        Group {
+            name: "script, lines",
+            calls: &["text", "date"],
+            cases: |_| lines(),
+            least: 40,
+            shares: &[("error", 10), ("text 0", 10)],
+            complete: &[],
+            renewed: false,
+        },
+        Group {
+            name: "script, arguments",
+            calls: &[
+                "text",
+                "look",
+                "entry",
+                "key",
+                "install",
+                "cycle",
+                "root",
+                "timestamp",
+                "snapshot",
+                "targets",
+                "find",
+                "image",
+                "state",
+            ],
+            cases: |_| arguments(),
+            least: 90,
+            shares: &[("error", 10), ("cycle 0", 10)],
+            complete: &[],
+            renewed: false,
+        },
+    ]
 }
 
-/// Lines that docs/REPLAY.md settles. What it leaves open is left out: an empty word, a number with idle zeros.
+/// A line that is answered; of an error only that it is one is stated.
+fn answered(line: &str, stated: &str) -> Case {
+    Case::stated(Line::Raw(line.as_bytes().to_vec()), stated)
+}
+
+/// A line that is passed over.
+fn passed_over(line: &str) -> Case {
+    Case::open(Line::Raw(line.as_bytes().to_vec()))
+}
+
+/// Every way to write bytes, and lines that are no call.
 fn lines() -> Cases {
     let sound = [
         ("date '1985-10-21T01:21:00Z", "date 498705660"),
+        ("date 313938352d31302d32315430313a32313a30305a", "date 498705660"),
+        ("date -", "date bad"),
         ("text '[-0]", "text 2"),
         ("text '{\"a\":1,\"a!\":2}", "text 0"),
+        ("text 30", "text 0"),
+        ("text '30", "text 0"),
         ("text -", "text 2"),
         ("text '", "text 2"),
-        ("text 30", "text 0"),
         ("text '-", "text 2"),
-        ("text '30", "text 0"),
         ("text ''", "text 2"),
-        ("text '@0", "text 2"),
+        ("text '@000-root.json", "text 2"),
         ("text '#", "text 2"),
+        ("text @000-root.json", "text 0"),
+        ("text @000-root.printed", "text 2"),
+        ("text @../published/003-targets.json", "text 0"),
+    ];
+    let broken = [
+        "x",
+        "Text 30",
+        "texts 30",
+        "text",
+        "text 30 30",
+        "text  30",
+        " text 30",
+        "text 3",
+        "text 303",
+        "text 3G",
+        "text 3A",
+        "text 0x30",
+        "text --",
+        "text -0",
+        "text 30'",
+        "text '3 0",
+        "text @no/such/file",
+        "text @",
+        "date",
+        "date - -",
+    ];
+    let mut cases = vec![passed_over("# a comment"), passed_over(""), passed_over("#")];
+    for (line, stated) in sound {
+        cases.push(answered(line, stated));
+        cases.push(passed_over(""));
+    }
+    for line in broken {
+        cases.push(answered(line, "error"));
+        cases.push(passed_over("#text 30"));
+        cases.push(answered("text 30", "text 0"));
+    }
+    // "holds a line of at least 300,000 bytes"
+    cases.push(answered(&format!("text '\"{}\"", "x".repeat(299_992)), "text 1"));
+    cases.push(answered(&format!("text {}", "30".repeat(149_000)), "text 1"));
+    cases.push(answered(&format!("date {}", "30".repeat(149_000)), "date bad"));
+    all_of(cases)
+}
+
+/// Numbers at the ends of their types, too many and too few words of every call.
+fn arguments() -> Cases {
+    const HELD: &str = "root=1 timestamp=- snapshot=- targets=- time=7";
+    let sound = [
         ("look '{\"signatures\":[],\"signed\":{}}", "look 0 26 2 0"),
         (
             "look 7b227369676e617475726573223a5b5d2c227369676e6564223a7b7d7d",
@@ -60,31 +128,28 @@ fn lines() -> Cases {
             "entry 15",
         ),
         ("key '", "key 6"),
-        ("cycle 0", "cycle 0"),
+        ("cycle 0", "cycle 0 root=- timestamp=- snapshot=- targets=- time=0"),
         ("cycle -1", "cycle 0 root=- timestamp=- snapshot=- targets=- time=-1"),
-        ("cycle 5", "cycle 0 root=- timestamp=- snapshot=- targets=- time=5"),
         ("cycle 9223372036854775807", "cycle 0"),
         ("cycle -9223372036854775808", "cycle 0"),
         ("image 18446744073709551615 - 0 -", "image 5"),
-        ("state", "state"),
+        (
+            "state",
+            "state root=- timestamp=- snapshot=- targets=- time=-9223372036854775808",
+        ),
+        ("timestamp @000-timestamp.json 01", "timestamp 6"),
+        ("install @000-root.json 01 -9223372036854775808", "install 0 root=1"),
+        ("install @000-root.json 01 9223372036854775807", "install 0 root=1"),
+        ("install @000-root.json 01 7", "install 0 root=1"),
+        ("timestamp @000-timestamp.json -", "timestamp 5"),
+        ("timestamp @000-timestamp.json '\u{1}\u{1}", "timestamp 5"),
+        (
+            "key 'f2d5020d08aea06a0a9192eb6a4f549e17032ebefa1aa9ac167c1e3e727930d6",
+            "key 0 66dd78c5c2a78abc6fc6b267ff1a8017ba0e8bfc853dd97af351949bba021275",
+        ),
     ];
+    // A root is held then. What is no call leaves it as it is.
     let broken = [
-        "x",
-        "Text 30",
-        "text",
-        "text 30 30",
-        "text  30",
-        " text 30",
-        "text 3",
-        "text 3G",
-        "text 3A",
-        "text 0x30",
-        "text --",
-        "text -0",
-        "text 30'",
-        "text @no/such/file",
-        "text @",
-        "date",
         "look",
         "look - -",
         "entry -",
@@ -92,11 +157,14 @@ fn lines() -> Cases {
         "entry - 18446744073709551616",
         "entry - x",
         "entry - - 0",
+        "entry 0 -",
         "key",
+        "key - -",
         "install - -",
         "install - - x",
         "install - - 9223372036854775808",
         "install - - - 0",
+        "install @no/such/file 01 7",
         "cycle",
         "cycle -",
         "cycle 1 2",
@@ -119,37 +187,16 @@ fn lines() -> Cases {
         "image 1 - 1 - 1",
         "image -1 - 1 -",
         "image 1 - 18446744073709551616 -",
+        "image - 1 - 1",
         "state 1",
         "states",
     ];
-    let mut cases = Vec::new();
-    let mut add = |line: &str, stated: Option<&str>| {
-        let line = Line::Raw(line.as_bytes().to_vec());
-        cases.push(match stated {
-            Some(stated) => Case::stated(line, stated),
-            None => Case::open(line),
-        });
-    };
-    for (line, stated) in sound {
-        add(line, Some(stated));
-        add("", None);
-    }
-    let root = files::file(Root::new(1, 0).signed(), &[1]).written();
-    let installed = "install 0 root=1 timestamp=- snapshot=- targets=- time=7";
-    add(&format!("install {} 01 7", hex::written(&root)), Some(installed));
-    // A root is held now. What is no call leaves it as it is.
-    add("# a comment", None);
-    add("#", None);
+    let mut cases: Vec<Case> = sound.map(|(line, stated)| answered(line, stated)).into();
     for line in broken {
-        add(line, Some("error"));
-        add("#text 30", None);
-        add(
-            "cycle 7",
-            Some("cycle 0 root=1 timestamp=- snapshot=- targets=- time=7"),
-        );
+        cases.push(answered(line, "error"));
+        cases.push(passed_over("# nothing"));
+        cases.push(answered("cycle 7", &format!("cycle 0 {HELD}")));
     }
-    add("state", Some("state root=1 timestamp=- snapshot=- targets=- time=7"));
-    let long = format!("text '\"{}\"", "x".repeat(290_000));
-    add(&long, Some("text 1"));
+    cases.push(answered("state", &format!("state {HELD}")));
     all_of(cases)
 }

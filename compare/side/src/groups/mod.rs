@@ -12,6 +12,7 @@ mod looks;
 mod mutants;
 mod named;
 pub(crate) mod names;
+mod published;
 mod text;
 mod texts;
 
@@ -37,6 +38,7 @@ pub fn all() -> Vec<Group> {
         forms::groups(),
         limits::groups(),
         named::groups(),
+        published::groups(),
         histories::groups(),
     ]
     .into_iter()
@@ -97,7 +99,7 @@ impl Recorder {
 
 #[cfg(test)]
 mod tests {
-    use super::{missing_calls, all};
+    use super::{all, missing_calls};
     use crate::random::Random;
     use std::collections::BTreeSet;
 
@@ -130,7 +132,7 @@ mod tests {
                 .map(|case| case.line().split(' ').next().unwrap_or_default().to_string())
                 .collect();
             let named: BTreeSet<String> = group.calls.iter().map(|call| call.to_string()).collect();
-            if group.name != "script, lines" {
+            if !group.name.starts_with("script") {
                 assert_eq!(made, named, "{}", group.name);
             }
         }

@@ -95,8 +95,9 @@ fn wrong(answer: &str) -> String {
 }
 
 fn answer(script: &mut Script, line: &[u8], mistake: &str) -> Option<String> {
+    let line = &mistakes::line(mistake, line)?;
     match Call::read(line) {
         Ok(call) => Some(mistakes::answer(mistake, script, &call).unwrap_or_else(|| script.call(&call))),
-        Err(_) => script.line(line),
+        Err(_) => mistakes::error(mistake, script, line),
     }
 }

@@ -2,11 +2,14 @@
 //! than those given, or by refusing where there is nothing to refuse. The comparison has to notice every one of them.
 
 mod forms;
+mod lines;
 mod questions;
 mod steps;
 mod texts;
 
 use paper::script::{Call, Script};
+
+pub use lines::{error, line};
 
 /// The answer of a library with this mistake; `None` where the mistake plays no part.
 pub fn answer(mistake: &str, script: &mut Script, call: &Call) -> Option<String> {
