@@ -53,6 +53,11 @@ impl Case {
         }
     }
 
+    /// Whether its answer is known from elsewhere.
+    pub fn is_stated(&self) -> bool {
+        self.stated.is_some()
+    }
+
     /// The line of the script.
     pub fn line(&self) -> String {
         let mut line = Vec::new();

@@ -161,7 +161,7 @@ fn forms_of(kind: Kind) -> Cases {
     let valid = valid(kind, if kind == Kind::Root { 2 } else { 1 });
     let mut stage = Stage::new(kind);
     let mut script = Recorder::default();
-    let files = std::iter::once(valid.clone()).chain(mutants::all(&valid));
+    let files = std::iter::once(valid.clone()).chain(mutants::all(valid));
     Box::new(files.flat_map(move |file| {
         script.open(Call::Look(file.written()));
         if kind == Kind::Root {

@@ -3,8 +3,8 @@
 
 use std::collections::BTreeMap;
 
+use super::Recorder;
 use super::forms::{self, Kind, Stage, valid};
-use super::{Recorder, all_of};
 use crate::calls::Call;
 use crate::compare::{Cases, Group};
 use crate::shelf::files::{self, HIGHEST_VERSION, Header, LONGEST, Listed, Role, Root, Snapshot, Targets};
@@ -51,16 +51,21 @@ pub fn groups() -> Vec<Group> {
 }
 
 fn limits() -> Cases {
-    let mut script = Recorder::default();
-    lengths(&mut script);
-    entries(&mut script);
-    keys(&mut script);
-    keyids(&mut script);
-    counts_of_names(&mut script);
-    bytes_of_names(&mut script);
-    numbers(&mut script);
-    depths(&mut script);
-    all_of(script.take())
+    let parts: [fn(&mut Recorder); 8] = [
+        entries,
+        keys,
+        keyids,
+        counts_of_names,
+        bytes_of_names,
+        numbers,
+        depths,
+        lengths,
+    ];
+    Box::new(parts.into_iter().flat_map(|part| {
+        let mut script = Recorder::default();
+        part(&mut script);
+        script.take()
+    }))
 }
 
 const KINDS: [Kind; 4] = [Kind::Root, Kind::Timestamp, Kind::Snapshot, Kind::Targets];

@@ -69,24 +69,21 @@ pub fn wrong_values() -> Vec<Tree> {
 }
 
 /// Every file that one edit makes of this one.
-pub fn all(file: &Tree) -> Vec<Tree> {
+pub fn all(file: Tree) -> impl Iterator<Item = Tree> {
     let wrong = wrong_values();
-    let mut mutants = Vec::new();
-    for place in file.places() {
-        let mut add = |edit: &dyn Fn(&mut Tree)| {
+    file.places().into_iter().flat_map(move |place| {
+        let edited = |edit: &dyn Fn(&mut Tree)| {
             let mut mutant = file.clone();
             edit(&mut mutant);
-            mutants.push(mutant);
+            mutant
         };
-        for value in &wrong {
-            add(&|mutant| *mutant.at(&place) = value.clone());
-        }
-        for edit in EDITS {
-            add(&|mutant| edit(mutant, &place));
-        }
-    }
-    mutants.retain(|mutant| mutant != file);
-    mutants
+        let replaced = wrong
+            .iter()
+            .map(|value| edited(&|mutant| *mutant.at(&place) = value.clone()));
+        let others = EDITS.iter().map(|edit| edited(&|mutant| edit(mutant, &place)));
+        let mutants = replaced.chain(others).filter(|mutant| *mutant != file);
+        mutants.collect::<Vec<_>>()
+    })
 }
 
 /// A file that some edit makes of this one.
@@ -196,7 +193,7 @@ mod tests {
 
     #[test]
     fn every_value_is_replaced_and_every_member_edited() {
-        let mutants = all(&object([("a", number(0)), ("b", number(9))]));
+        let mutants: Vec<_> = all(object([("a", number(0)), ("b", number(9))])).collect();
         let written: Vec<String> = mutants
             .iter()
             .map(|mutant| String::from_utf8(mutant.written()).unwrap())

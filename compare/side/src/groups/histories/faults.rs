@@ -38,23 +38,18 @@ fn long(history: &mut History, offer: &mut Offer) {
 }
 
 /// Signs anew with too few keys of one or both of the roles that judge the file.
-pub fn too_few_keys(history: &mut History, offer: &mut Offer) {
-    let random = &mut history.random;
-    let one_is_enough = random.one_in(2);
+fn too_few_keys(history: &mut History, offer: &mut Offer) {
     let judges = history.judges(&offer.plan);
-    offer.signing = match &judges[..] {
-        [role] => sign(&[(role, false)], &mut history.random),
-        [held, own] => {
-            let enough = [(false, true), (true, false), (false, false)][history.random.below(3)];
-            sign(&[(held, enough.0), (own, enough.1)], &mut history.random)
-        }
-        _ => return,
+    let enough = match judges.len() {
+        1 => [false, false],
+        _ => history.random.pick(&[[false, true], [true, false], [false, false]]),
     };
-    // Now and then only the verdicts are taken away.
-    if one_is_enough {
-        for row in &mut offer.signing.rows {
-            row.iter_mut()
-                .for_each(|verdict| *verdict &= history.random.below(2) as u8);
+    let judges: Vec<(&Role, bool)> = judges.iter().zip(enough).collect();
+    offer.signing = sign(&judges, &mut history.random);
+    // Often still fewer verify.
+    if history.random.one_in(2) {
+        for verdict in offer.signing.rows.iter_mut().flatten() {
+            *verdict &= history.random.below(2) as u8;
         }
     }
 }

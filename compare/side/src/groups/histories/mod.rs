@@ -153,7 +153,12 @@ impl History {
     fn offer(&mut self, offer: &Offer, stated: Option<String>) {
         let call = offer.call(&mut self.random);
         self.offered.push(call.clone());
-        let given = match &call {
+        self.make(call, stated);
+    }
+
+    /// Makes a call that offers a file, and notes what was accepted.
+    fn make(&mut self, call: Call, stated: Option<String>) {
+        let targets = match &call {
             Call::Targets { file, digest, .. } => Some((file.clone(), digest.clone())),
             _ => None,
         };
@@ -162,7 +167,7 @@ impl History {
             None => self.script.open(call),
         };
         if answer.starts_with("targets 0 ") {
-            self.targets.extend(given);
+            self.targets.extend(targets);
         }
         if answer.starts_with("root 0 ") || answer.starts_with("install 0 ") {
             let root = self.script.state().root.iter();
@@ -281,7 +286,7 @@ impl History {
             if !self.offered.is_empty() {
                 let call = self.offered[self.random.below(self.offered.len())].clone();
                 if !matches!(call, Call::Install { .. }) || self.random.one_in(8) {
-                    self.script.open(call);
+                    self.make(call, None);
                 }
             }
         }
@@ -427,38 +432,21 @@ impl History {
         self.script.open(Call::Image { found, fetched });
     }
 
-    /// Looks for an image in the targets file accepted last, or in another one.
+    /// Looks for an image in the targets file accepted last, or in another one; now and then with a fault.
     fn find(&mut self) {
-        let (mut file, mut digest) = match self.random.below(8) {
-            0 => {
-                let release = self.publisher.release(self.script.state(), &mut self.random);
-                let [_, _, targets] = release.offers;
-                let file = targets.file(&mut self.random);
-                let digest = digest(&file).to_vec();
-                (file, digest)
-            }
-            1 if !self.targets.is_empty() => self.targets[self.random.below(self.targets.len())].clone(),
-            _ => match self.targets.last() {
-                Some(last) => last.clone(),
-                None => match self.any_offered_file() {
-                    Some(file) => (file, vec![1; 32]),
-                    None => (Vec::new(), vec![1; 32]),
-                },
-            },
-        };
+        let (mut file, mut digest) = self.targets_file();
         let paths = paths_in(&file);
         match self.random.below(24) {
             0 => digest = vec![7; self.random.pick(&[0, 31, 32, 33, 64])],
-            1 => {
-                if let Some(byte) = digest.first_mut() {
-                    *byte ^= 1;
-                }
+            1 | 2 => {
+                let place = self.random.below(digest.len());
+                digest[place] ^= 1 << self.random.below(8);
             }
-            2 => file = super::damage::edited(file, &mut self.random),
-            3 => file = self.any_offered_file().unwrap_or_default(),
-            4 if self.random.one_in(8) => file = [&file[..], &vec![b' '; 32_768]].concat(),
-            5 => file = replaced(&file, b"\"spec_version\":\"1", b"\"spec_version\":\"2"),
-            6 => {
+            3 => file = super::damage::edited(file, &mut self.random),
+            4 => file = self.any_offered_file().unwrap_or_default(),
+            5 if self.random.one_in(8) => file = [&file[..], &vec![b' '; 32_768]].concat(),
+            6 => file = replaced(&file, b"\"spec_version\":\"1", b"\"spec_version\":\"2"),
+            7 => {
                 if let Some((other, _)) = self.targets.first() {
                     file = other.clone();
                 }
@@ -467,6 +455,22 @@ impl History {
         }
         let path = self.path(&paths);
         self.script.open(Call::Find { file, digest, path });
+    }
+
+    /// A targets file with its digest: mostly the one accepted last.
+    fn targets_file(&mut self) -> (Vec<u8>, Vec<u8>) {
+        if self.random.one_in(8) {
+            let release = self.publisher.release(self.script.state(), &mut self.random);
+            let [_, _, targets] = release.offers;
+            let file = targets.file(&mut self.random);
+            let digest = digest(&file).to_vec();
+            return (file, digest);
+        }
+        match self.targets.len() {
+            0 => (self.any_offered_file().unwrap_or_default(), vec![1; 32]),
+            count if self.random.one_in(7) => self.targets[self.random.below(count)].clone(),
+            count => self.targets[count - 1].clone(),
+        }
     }
 
     /// A path that is listed, or one that is close to it.
@@ -503,5 +507,23 @@ fn replaced(bytes: &[u8], old: &[u8], new: &[u8]) -> Vec<u8> {
     match bytes.windows(old.len()).position(|window| window == old) {
         Some(place) => [&bytes[..place], new, &bytes[place + old.len()..]].concat(),
         None => bytes.to_vec(),
+    }
+}
+
+#[cfg(test)]
+mod tests {
+    use super::History;
+
+    #[test]
+    fn the_publisher_is_heard_in_most_histories() {
+        for call in ["install", "root", "timestamp", "snapshot", "targets"] {
+            let is_heard = |number: &usize| {
+                let cases = History::new(1, *number).played();
+                let mut stated = cases.iter().filter(|case| case.is_stated());
+                stated.any(|case| case.line().starts_with(&format!("{call} ")))
+            };
+            let heard = (0..60).filter(is_heard).count();
+            assert!(heard > 30, "{call}: {heard} of 60");
+        }
     }
 }

@@ -39,8 +39,9 @@ pub fn sign(roles: &[(&Role, bool)], random: &mut Random) -> Signing {
     if roles.iter().any(|(_, enough)| !enough) && random.one_in(2) {
         repeat(&mut keys, random);
     }
-    random.shuffle(&mut keys);
+    // Those that count stand first, and so they all stay.
     keys.truncate(MOST_ENTRIES);
+    random.shuffle(&mut keys);
     let rows = roles
         .iter()
         .zip(&counted)
@@ -68,7 +69,6 @@ fn repeat(keys: &mut Vec<usize>, random: &mut Random) {
     for _ in 0..random.between(1, 3) {
         keys.extend_from_within(..);
     }
-    keys.truncate(MOST_ENTRIES);
 }
 
 /// The verdicts for a role: 1 for some entry of each key that counts, 0 for the role's other keys, anything for keys that
@@ -95,6 +95,13 @@ mod tests {
         let mut random = Random::new(1, "signing");
         for _ in 0..2_000 {
             let (one, other) = (Role::new([1, 2, 3, 4], 3), Role::new([3, 4, 5], 1));
+            let (one, other) = match random.one_in(2) {
+                true => (one, other),
+                false => (
+                    Role::new([1, 2, 3, 4, 5, 6, 7, 8], 7),
+                    Role::new([8, 9, 10, 11, 12, 13, 14, 15], 8),
+                ),
+            };
             let (enough, other_enough) = (random.one_in(2), random.one_in(2));
             let signing = sign(&[(&one, enough), (&other, other_enough)], &mut random);
             for (role, enough, row) in [
@@ -112,7 +119,7 @@ mod tests {
                 let count = role.keys.iter().filter(|key| counting.contains(key)).count() as u64;
                 assert_eq!(count >= role.threshold, enough, "{signing:?}");
             }
-            assert!(signing.keys.iter().all(|key| *key < 6 || STRANGERS.contains(key)));
+            assert!(signing.keys.iter().all(|key| *key < 16 || STRANGERS.contains(key)));
         }
     }
 }

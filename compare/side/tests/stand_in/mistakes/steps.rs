@@ -25,8 +25,14 @@ pub fn answer(mistake: &str, script: &mut Script, call: &Call) -> Option<String>
     if !meddles_after(mistake) {
         return other.is_some().then(|| script.call(call));
     }
+    if matches!(
+        call,
+        Call::Find { .. } | Call::Key(_) | Call::Look(_) | Call::Entry { .. } | Call::State
+    ) {
+        return None;
+    }
     let answer = script.call(call);
-    if script.state == before && !answer.starts_with("install ") {
+    if script.state == before && !answer.starts_with("install ") && !mistake.starts_with("refused-") {
         return Some(answer);
     }
     meddle_after(mistake, script, &before, call);
@@ -249,6 +255,52 @@ fn meddle_before(mistake: &str, state: &mut State, call: &Call) {
                 .iter_mut()
                 .for_each(|held| held.digest = paper::hex::written(digest));
         }
+        ("vanished-prefix-taken", Call::Snapshot { file, .. }) => {
+            if let (Some(held), Ok(new)) = (&mut state.snapshot, forms::snapshot(file)) {
+                let names = &new.says.meta;
+                held.meta.retain(|name, _| {
+                    let is_there = names.contains_key(name);
+                    is_there || !names.keys().any(|other| other.starts_with(name.as_str()))
+                });
+            }
+        }
+        ("snapshot-length-16-bit", Call::Snapshot { file, .. }) => {
+            let listed = state.timestamp.as_mut().and_then(|held| held.snapshot.length.as_mut());
+            let length = file.len() as u64;
+            if let Some(listed) = listed.filter(|listed| **listed % 65_536 == length % 65_536) {
+                *listed = length;
+            }
+        }
+        ("digest-31-bytes", Call::Snapshot { digest, .. }) => {
+            if let Some(sha256) = state.timestamp.as_mut().and_then(|held| held.snapshot.sha256.as_mut()) {
+                forget_last_byte(sha256, digest);
+            }
+        }
+        ("digest-31-bytes", Call::Targets { digest, .. }) => {
+            listed_targets(state, |listed| {
+                if let Some(sha256) = &mut listed.sha256 {
+                    forget_last_byte(sha256, digest);
+                }
+            });
+        }
+        ("kept-digest-31-bytes", Call::Find { digest, .. }) => {
+            if let Some(held) = &mut state.targets {
+                forget_last_byte(&mut held.digest, digest);
+            }
+        }
+        ("sixteenth-key-ignored", _) => {
+            if let Some(root) = state.root.as_mut().filter(|root| root.keys.len() == 16) {
+                let last = root.keys.keys().next_back().cloned().unwrap_or_default();
+                for role in [
+                    &mut root.root,
+                    &mut root.timestamp,
+                    &mut root.snapshot,
+                    &mut root.targets,
+                ] {
+                    role.keyids.remove(&last);
+                }
+            }
+        }
         ("threshold-ignored", _) => {
             if let Some(root) = &mut state.root {
                 for role in [
@@ -297,6 +349,14 @@ fn meddle_before(mistake: &str, state: &mut State, call: &Call) {
                 .for_each(|held| never_expires(&mut held.header));
         }
         _ => {}
+    }
+}
+
+/// Makes the last byte of a digest in hex that of the one given.
+fn forget_last_byte(sha256: &mut String, digest: &[u8]) {
+    if let [.., last] = digest {
+        sha256.truncate(62);
+        sha256.push_str(&paper::hex::written(&[*last]));
     }
 }
 
@@ -399,6 +459,8 @@ fn meddles_after(mistake: &str) -> bool {
     [
         "refused-install-keeps-state",
         "refused-install-keeps-time",
+        "refused-root-drops",
+        "refused-timestamp-held",
         "install-keeps-records",
         "root-sets-time",
         "rotation-missed",
@@ -432,6 +494,18 @@ fn meddle_after(mistake: &str, script: &mut Script, before: &State, call: &Call)
             state.timestamp = before.timestamp.clone();
             state.snapshot = before.snapshot.clone();
             state.targets = before.targets.clone();
+        }
+        ("refused-root-drops", Call::Root { file, .. }) if state == before => {
+            if let (Some(held), Ok(new)) = (&before.root, forms::root(file))
+                && held.timestamp.keyids != new.says.timestamp.keyids
+            {
+                state.timestamp = None;
+            }
+        }
+        ("refused-timestamp-held", Call::Timestamp { file, .. }) if state == before => {
+            if let (Some(_), Ok(new)) = (&before.root, forms::timestamp(file)) {
+                state.timestamp = Some(new.says);
+            }
         }
         ("cycle-drops-targets", Call::Cycle(_)) => state.targets = None,
         ("timestamp-drops-snapshot", Call::Timestamp { .. }) => state.snapshot = None,
