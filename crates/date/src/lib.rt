@@ -12,6 +12,7 @@ ghost use Rattle.date.specs.View.{viewDate};
 const DAY: i64 = 86400;
 
 // A count of seconds from 1970-01-01T00:00:00Z.
+#[repr(C)]
 pub struct Time {
     pub seconds: i64,
 }

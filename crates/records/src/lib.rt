@@ -27,33 +27,39 @@ pub const MAX_PATH: usize = 128;
 pub const DIGEST: usize = 32;
 
 // A keyid, a public key or a digest.
+#[repr(C)]
 pub struct Id {
     pub bytes: [u8; 32],
 }
 
 // The keyids of a file's signature entries, in file order: the first `count` are meant.
+#[repr(C)]
 pub struct Entries {
     pub count: usize,
     pub ids: [Id; 16],
 }
 
+#[repr(C)]
 pub struct Key {
     pub keyid: Id,
     pub public: Id,
 }
 
 // The first `count` are meant.
+#[repr(C)]
 pub struct KeyTable {
     pub count: usize,
     pub keys: [Key; 16],
 }
 
 // The role's keys as bits over the key table, and how many of them have to sign.
+#[repr(C)]
 pub struct Role {
     pub keys: u16,
     pub threshold: u64,
 }
 
+#[repr(C)]
 pub struct Root {
     pub version: u64,
     pub expires: Time,
@@ -65,6 +71,7 @@ pub struct Root {
 }
 
 // What is said of a listed file: the length and the digest only where they are given.
+#[repr(C)]
 pub struct Listed {
     pub version: u64,
     pub measured: bool,
@@ -73,6 +80,7 @@ pub struct Listed {
     pub digest: Id,
 }
 
+#[repr(C)]
 pub struct Timestamp {
     pub version: u64,
     pub expires: Time,
@@ -80,28 +88,33 @@ pub struct Timestamp {
 }
 
 // A name has the first `length` bytes.
+#[repr(C)]
 pub struct Name {
     pub length: usize,
     pub bytes: [u8; 32],
 }
 
+#[repr(C)]
 pub struct Named {
     pub name: Name,
     pub listed: Listed,
 }
 
 // The first `count` are meant.
+#[repr(C)]
 pub struct Names {
     pub count: usize,
     pub named: [Named; 32],
 }
 
+#[repr(C)]
 pub struct Snapshot {
     pub version: u64,
     pub expires: Time,
     pub names: Names,
 }
 
+#[repr(C)]
 pub struct Targets {
     pub version: u64,
     pub expires: Time,

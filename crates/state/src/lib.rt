@@ -31,6 +31,7 @@ ghost use Rattle.state.specs.View.{view};
 ghost use Rattle.state.specs.Told.{Shown, Tells};
 
 // Which records are held.
+#[repr(C)]
 pub struct Held {
     root: bool,
     timestamp: bool,
@@ -38,6 +39,7 @@ pub struct Held {
     targets: bool,
 }
 
+#[repr(C)]
 pub struct State {
     start: Time,
     held: Held,
@@ -48,12 +50,14 @@ pub struct State {
 }
 
 // A record's version, where the record is held; else 0.
+#[repr(C)]
 pub struct Version {
     pub held: bool,
     pub number: u64,
 }
 
 // What is told of a state: the held versions and the start time.
+#[repr(C)]
 pub struct Versions {
     pub root: Version,
     pub timestamp: Version,

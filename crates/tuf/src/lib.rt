@@ -23,17 +23,20 @@ use state::Versions;
 
 // ---- The state, and what the calls give back
 
+#[repr(C)]
 pub struct State {
     trusted: state::State,
 }
 
 // What a step gives back.
+#[repr(C)]
 pub struct Step {
     pub answer: Answer,
     pub state: State,
 }
 
 // What find gives.
+#[repr(C)]
 pub struct Image {
     pub answer: Answer,
     pub length: u64,
@@ -41,6 +44,7 @@ pub struct Image {
 }
 
 // What key gives.
+#[repr(C)]
 pub struct PublicKey {
     pub answer: Answer,
     pub public: Id,

@@ -1,0 +1,162 @@
+// The calls of `tuf` for C and Rust: each exported function has the contract of the call that it wraps. An answer is 01's number; a state
+// goes in and comes back by value; bytes are lent as a pointer and a length. include/gronwythal.h is the other side of this file.
+use date::Time;
+use records::Id;
+use state::Versions;
+use tuf::State;
+
+// ---- What the calls give back
+
+#[repr(C)]
+pub struct Step {
+    pub answer: u8,
+    pub state: State,
+}
+
+#[repr(C)]
+pub struct Image {
+    pub answer: u8,
+    pub length: u64,
+    pub digest: Id,
+}
+
+#[repr(C)]
+pub struct PublicKey {
+    pub answer: u8,
+    pub public: Id,
+}
+
+#[repr(C)]
+pub struct Looked {
+    pub answer: u8,
+    pub start: usize,
+    pub length: usize,
+    pub entries: usize,
+}
+
+#[repr(C)]
+pub struct EntryRead {
+    pub answer: u8,
+    pub keyid: Id,
+    pub sig: [u8; 64],
+}
+
+// An answer by its number.
+fn numbered(step: tuf::Step) -> Step {
+    let a = step.answer;
+    let answer = answers::number(a);
+    let state = step.state;
+    Step { answer, state }
+}
+
+// ---- The calls, in the order of 01's steps
+
+#[no_mangle]
+pub extern "C" fn gronwythal_blank() -> State {
+    State::blank()
+}
+
+#[no_mangle]
+pub extern "C" fn gronwythal_install(file: &[u8], row: &[u8], start: i64) -> Step {
+    numbered(State::install(file, row, Time { seconds: start }))
+}
+
+#[no_mangle]
+pub extern "C" fn gronwythal_new_cycle(state: State, start: i64) -> Step {
+    numbered(state.new_cycle(Time { seconds: start }))
+}
+
+#[no_mangle]
+pub extern "C" fn gronwythal_root(state: State, file: &[u8], held: &[u8], own: &[u8]) -> Step {
+    numbered(state.root(file, held, own))
+}
+
+#[no_mangle]
+pub extern "C" fn gronwythal_timestamp(state: State, file: &[u8], row: &[u8]) -> Step {
+    numbered(state.timestamp(file, row))
+}
+
+#[no_mangle]
+pub extern "C" fn gronwythal_snapshot(
+    state: State,
+    file: &[u8],
+    row: &[u8],
+    digest: &[u8],
+) -> Step {
+    numbered(state.snapshot(file, row, digest))
+}
+
+#[no_mangle]
+pub extern "C" fn gronwythal_targets(state: State, file: &[u8], row: &[u8], digest: &[u8]) -> Step {
+    numbered(state.targets(file, row, digest))
+}
+
+#[no_mangle]
+pub extern "C" fn gronwythal_find(state: State, file: &[u8], digest: &[u8], path: &[u8]) -> Image {
+    let found = state.find(file, digest, path);
+    let a = found.answer;
+    let answer = answers::number(a);
+    let listed = found.digest;
+    Image {
+        answer,
+        length: found.length,
+        digest: listed,
+    }
+}
+
+#[no_mangle]
+pub extern "C" fn gronwythal_key(state: State, keyid: &[u8]) -> PublicKey {
+    let asked = state.key(keyid);
+    let a = asked.answer;
+    let answer = answers::number(a);
+    let public = asked.public;
+    PublicKey { answer, public }
+}
+
+#[no_mangle]
+pub extern "C" fn gronwythal_versions(state: State) -> Versions {
+    state.versions()
+}
+
+#[no_mangle]
+pub extern "C" fn gronwythal_check_image(
+    listed: u64,
+    digest: &[u8],
+    fetched: u64,
+    hash: &[u8],
+) -> u8 {
+    let a = tuf::check_image(listed, digest, fetched, hash);
+    answers::number(a)
+}
+
+// ---- Looking into a file
+
+#[no_mangle]
+pub extern "C" fn gronwythal_look(file: &[u8]) -> Looked {
+    let looked = tuf::look(file);
+    let a = looked.answer;
+    let answer = answers::number(a);
+    Looked {
+        answer,
+        start: looked.start,
+        length: looked.length,
+        entries: looked.entries,
+    }
+}
+
+#[no_mangle]
+pub extern "C" fn gronwythal_entry(file: &[u8], place: usize) -> EntryRead {
+    let read = tuf::entry(file, place);
+    let a = read.answer;
+    let answer = answers::number(a);
+    let keyid = read.keyid;
+    let sig = read.sig;
+    EntryRead { answer, keyid, sig }
+}
+
+// ---- Text alone
+
+#[no_mangle]
+pub extern "C" fn gronwythal_is_canonical(text: &[u8]) -> bool {
+    json::is_canonical(text)
+}
