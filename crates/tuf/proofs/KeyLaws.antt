@@ -53,7 +53,7 @@ held-keys s k found public w o e = subst (λ (h : Root). Asked (keyOf k (h .keys
 
 module _ (self : State) (k : Bytes) (r : PublicKey) where
   -- a refusal, by its line of the table
-  refused : (a : Answer) → ¬ (numberOf a ≡ 0) → numberOf a ≡ answer (view self) (askKey k) → NoKey a r → GivesKey self k r
+  refused : (a : Answer) → ¬ (numberOf a ≡ 0) → numberOf a ≡ answer (view self) (askKey k) → NoKey a r → GivesKey self k (numberOf (r .answer)) (viewId (r .public))
   refused a x e w =
       record {
         answered = ap (λ (b : Answer). numberOf b) (w .answer) ∙ e;
@@ -62,7 +62,7 @@ module _ (self : State) (k : Bytes) (r : PublicKey) where
 
   -- what tells whether a root is held
   module _ (lacks : Bool) (l : lacks ≡ absent (view self .root)) where
-    pub key-not-held : lacks ≡ true → NoKey NotHeld r → GivesKey self k r
+    pub key-not-held : lacks ≡ true → NoKey NotHeld r → GivesKey self k (numberOf (r .answer)) (viewId (r .public))
     unfolding answer keyTable
     key-not-held e = refused NotHeld (λ z. omega arith) (hit _ _ _ _ l e)
 
@@ -71,7 +71,7 @@ module _ (self : State) (k : Bytes) (r : PublicKey) where
       hex-is : ok ≡ isHex keySize k
       hex-is = u .answer ∙ ap (λ (n : ℕ). isHex n k) z
 
-      pub key-not-hex : ok ≡ false → NoKey NotListed r → GivesKey self k r
+      pub key-not-hex : ok ≡ false → NoKey NotListed r → GivesKey self k (numberOf (r .answer)) (viewId (r .public))
       unfolding answer keyTable
       key-not-hex e =
           refused NotListed (λ z. omega arith) (skip _ _ _ _ _ l h (hit _ _ _ _ (ap not hex-is) (ap not e)))
@@ -91,7 +91,7 @@ module _ (self : State) (k : Bytes) (r : PublicKey) where
         asked : Asked (keyOf (undo k) (held .0 .keys)) found public
         asked = subst (λ (b : Bytes). Asked (keyOf b (held .0 .keys)) found public) undone (w (held .0) (held .1))
 
-        pub key-unknown : found ≡ false → NoKey NotListed r → GivesKey self k r
+        pub key-unknown : found ≡ false → NoKey NotListed r → GivesKey self k (numberOf (r .answer)) (viewId (r .public))
         unfolding answer keyTable
         key-unknown e =
             refused NotListed (λ z. omega arith)
@@ -99,7 +99,7 @@ module _ (self : State) (k : Bytes) (r : PublicKey) where
             (skip _ _ _ _ _ (ap not (sym digits)) refl
             (hit _ _ _ _ (rw (held .1) (not-listed _ _ (asked .there))) (ap not e))))
 
-        pub key-known : found ≡ true → r .answer ≡ Accepted → r .public ≡ public → GivesKey self k r
+        pub key-known : found ≡ true → r .answer ≡ Accepted → r .public ≡ public → GivesKey self k (numberOf (r .answer)) (viewId (r .public))
         unfolding publicOf
         key-known e a p =
             let x = not-absent (keyOf (undo k) (held .0 .keys)) .0 (not-true _ (sym (asked .there) ∙ e)) in

@@ -6,15 +6,14 @@ use Rattle.rules.specs.State.{Call}
 use Rattle.rules.specs.Steps.{Stepped}
 use Rattle.history.specs.Program.{Step, Chained, Run, Holds}
 use Rattle.history.proofs.Program.{find-stepped, key-stepped, state-stepped, program}
-use Rattle.answers.specs.Number.{numberOf}
 use Rattle.tuf.specs.View.{view}
 use Rattle.tuf.specs.Library.{Made, stepping, finding, asking, telling, Calls, none, then, LibraryRun}
 use Rattle.tuf.specs.declared.State.{State}
 
 pub made-stepped : {self s : State} {c : Call} {n : ℕ} → Made self c n s → Stepped (view self) c n (view s)
 made-stepped (stepping w) = w .stepped
-made-stepped {self} (finding {q} {r} w) = find-stepped (view self) q (numberOf (r .answer)) (w .answered)
-made-stepped {self} (asking {k} {r} w) = key-stepped (view self) k (numberOf (r .answer)) (w .answered)
+made-stepped {self} (finding {q} {n} w) = find-stepped (view self) q n (w .answered)
+made-stepped {self} (asking {k} {n} w) = key-stepped (view self) k n (w .answered)
 made-stepped {self} (telling w) = state-stepped (view self)
 
 unfoldable pub stepsOf : {s : State} → Calls s → List (Step State view)
@@ -32,8 +31,8 @@ unfoldable pub runOf : LibraryRun → Run State view
 runOf l =
     record {
       install = l .install;
-      answers = numberOf (l .first .answer);
-      first = l .first .state;
+      answers = l .answer;
+      first = l .first;
       promise = l .began;
       accepted = l .accepted;
       steps = stepsOf (l .calls);

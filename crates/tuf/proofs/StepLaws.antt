@@ -30,7 +30,7 @@ use Rattle.tuf.specs.declared.Step.{Step}
 -- ## Any step
 
 module _ (self : State) (c : Call) (r : Step) where
-  pub step-refused : (n : ℕ) → answer (view self) c ≡ n → ¬ (n ≡ 0) → Refuses self n r → Steps self c r
+  pub step-refused : (n : ℕ) → answer (view self) c ≡ n → ¬ (n ≡ 0) → Refuses self n r → Steps self c (numberOf (r .answer)) (r .state)
   step-refused n e x w =
       record {
         stepped = record {
@@ -40,7 +40,7 @@ module _ (self : State) (c : Call) (r : Step) where
         unchanged = λ _. w .state;
       }
 
-  pub step-accepted : (t : held.State) → answer (view self) c ≡ 0 → state.view t ≡ next (view self) c → Accepts t r → Steps self c r
+  pub step-accepted : (t : held.State) → answer (view self) c ≡ 0 → state.view t ≡ next (view self) c → Accepts t r → Steps self c (numberOf (r .answer)) (r .state)
   unfolding view refuses
   step-accepted t e m w =
       record {
@@ -52,17 +52,17 @@ module _ (self : State) (c : Call) (r : Step) where
 
 module _ {A : Type 0} (self : State) (c : Call) (r : Step) (rd : Read A) (table : A → List Bytes → List Refusal) (item : A → Item)
     (is : answer (view self) c ≡ judged rd table) (o : offered c ≡ whatSays item rd) (s : started (view self) c ≡ view self) where
-  pub unread : (n : ℕ) → judged rd table ≡ n → ¬ (n ≡ 0) → Refuses self n r → Steps self c r
+  pub unread : (n : ℕ) → judged rd table ≡ n → ¬ (n ≡ 0) → Refuses self n r → Steps self c (numberOf (r .answer)) (r .state)
   unread n e x q = step-refused self c r n (is ∙ e) x q
 
   module _ (a : A) (es : List Bytes) (y : rd ≡ says a es) (k : ℕ) (j : k ≡ first (table a es)) where
     judged-as : answer (view self) c ≡ k
     judged-as = is ∙ judged-is table y ∙ sym j
 
-    pub held-back : ¬ (k ≡ 0) → Refuses self k r → Steps self c r
+    pub held-back : ¬ (k ≡ 0) → Refuses self k r → Steps self c (numberOf (r .answer)) (r .state)
     held-back x q = step-refused self c r k judged-as x q
 
-    pub let-in : k ≡ 0 → (t : held.State) → (first (table a es) ≡ 0 → state.view t ≡ trusting (view self) (item a)) → Accepts t r → Steps self c r
+    pub let-in : k ≡ 0 → (t : held.State) → (first (table a es) ≡ 0 → state.view t ≡ trusting (view self) (item a)) → Accepts t r → Steps self c (numberOf (r .answer)) (r .state)
     let-in z t m q =
         let e = judged-as ∙ z in
         let f = o ∙ says-what item y in

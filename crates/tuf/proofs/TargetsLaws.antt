@@ -95,22 +95,22 @@ module _ (path : Bytes) (is : List Image) (listed : Bool) (x : Found) (e : liste
       go (some i) false e h = none-not-some (sym e)
       go (some i) true e h = sym (some-is e)
 
-module _ (self : State) (q : Query) (r : tuf.Image) where
-  pub find-refused : (n : ℕ) → answer (view self) (find q) ≡ n → ¬ (n ≡ 0) → NoImage n r → FindsImage self q r
+module _ (self : State) (q : Query) where
+  pub find-refused : (r : tuf.Image) (n : ℕ) → answer (view self) (find q) ≡ n → ¬ (n ≡ 0) → NoImage n r → FindsImage self q (numberOf (r .answer)) (viewImage r)
   unfolding found refuses
-  find-refused n e x w =
+  find-refused r n e x w =
       record {
         answered = named (w .answer) (sym e) (answer-most (view self) (find q));
         gives = w .zeros ∙ rw (e, ne-eqb n 0 x) refl;
       }
 
-  pub find-found : (g : File (List Image)) (es : List Bytes) → targetsIn (q .file) ≡ says g es → first (findTable (view self) q g es) ≡ 0 → numberOf (r .answer) ≡ 0
-      → (listed : Bool) → listedImage (q .path) (g .body) ≡ keep listed (viewImage r) → FindsImage self q r
+  pub find-found : (g : File (List Image)) (es : List Bytes) → targetsIn (q .file) ≡ says g es → first (findTable (view self) q g es) ≡ 0 → {n : ℕ} → n ≡ 0
+      → (listed : Bool) (image : Found) → listedImage (q .path) (g .body) ≡ keep listed image → FindsImage self q n image
   unfolding answer found refuses inTargets findTable
-  find-found g es y z a listed e =
+  find-found g es y z a listed image e =
       let n : judged (targetsIn (q .file)) (findTable (view self) q) ≡ 0 = judged-is (findTable (view self) q) y ∙ z in
       let there : absent (imageOf (q .path) (g .body)) ≡ false = no-line (findTable (view self) q g es) refl z 15 2 in
       record {
         answered = a ∙ sym n;
-        gives = image-is (q .path) (g .body) listed (viewImage r) e there ∙ rw (n, y) refl;
+        gives = image-is (q .path) (g .body) listed image e there ∙ rw (n, y) refl;
       }

@@ -7,7 +7,7 @@ use Rattle.base.specs.Bytes.{Bytes}
 use Rattle.rules.specs.Limits.{keySize}
 use Rattle.rules.specs.State.{Query, Call, find, askKey}
 use Rattle.rules.specs.Steps.{answer, refuses, Stepped}
-use Rattle.rules.specs.Asked.{nothingFound, found, publicKey}
+use Rattle.rules.specs.Asked.{Found, nothingFound, found, publicKey}
 use Rattle.answers.specs.Number.{numberOf}
 use Rattle.answers.specs.declared.Answer.{Answer}
 use Rattle.records.specs.View.{viewId}
@@ -20,10 +20,10 @@ use Rattle.tuf.specs.declared.PublicKey.{PublicKey}
 
 -- ## Steps
 
--- of a step: the answer and the next state are the paper's; "A refusal returns the state it was given", every field of it
-pub record Steps (self : State) (c : Call) (r : Step) : Type 0 where
-  pub stepped : Stepped (view self) c (numberOf (r .answer)) (view (r .state))
-  pub unchanged : refuses c (numberOf (r .answer)) ≡ true → r .state ≡ self
+-- of a step that answers n: the answer and the state after it are the paper's; "A refusal returns the state it was given", every field of it
+pub record Steps (self : State) (c : Call) (n : ℕ) (after : State) : Type 0 where
+  pub stepped : Stepped (view self) c n (view after)
+  pub unchanged : refuses c n ≡ true → after ≡ self
 
 -- the two ways out of a step
 pub record Refuses (s : State) (n : ℕ) (r : Step) : Type 0 where
@@ -36,9 +36,9 @@ pub record Accepts (trusted : state.State) (r : Step) : Type 0 where
 
 -- ## Find: a call that returns no state
 
-pub record FindsImage (self : State) (q : Query) (r : Image) : Type 0 where
-  pub answered : numberOf (r .answer) ≡ answer (view self) (find q)
-  pub gives : viewImage r ≡ found (view self) q
+pub record FindsImage (self : State) (q : Query) (n : ℕ) (image : Found) : Type 0 where
+  pub answered : n ≡ answer (view self) (find q)
+  pub gives : image ≡ found (view self) q
 
 pub record NoImage (n : ℕ) (r : Image) : Type 0 where
   pub answer : numberOf (r .answer) ≡ min n 15
@@ -46,9 +46,9 @@ pub record NoImage (n : ℕ) (r : Image) : Type 0 where
 
 -- ## Key
 
-pub record GivesKey (self : State) (k : Bytes) (r : PublicKey) : Type 0 where
-  pub answered : numberOf (r .answer) ≡ answer (view self) (askKey k)
-  pub gives : viewId (r .public) ≡ publicKey (view self) k
+pub record GivesKey (self : State) (k : Bytes) (n : ℕ) (public : Bytes) : Type 0 where
+  pub answered : n ≡ answer (view self) (askKey k)
+  pub gives : public ≡ publicKey (view self) k
 
 pub record NoKey (a : Answer) (r : PublicKey) : Type 0 where
   pub answer : r .answer ≡ a

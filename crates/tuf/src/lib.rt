@@ -11,7 +11,7 @@ ghost use Rattle.answers.specs.Number.{numberOf};
 ghost use Rattle.records.specs.View.{viewId};
 ghost use Rattle.state.specs.Told.{Tells};
 ghost use Rattle.inspect.specs.View.{viewLook, viewEntryRead};
-ghost use Rattle.tuf.specs.View.{view};
+ghost use Rattle.tuf.specs.View.{view, viewImage};
 ghost use Rattle.tuf.specs.Promises.{Refuses, Accepts, Steps, NoImage, FindsImage, NoKey, GivesKey};
 use answers::Answer;
 use date::Time;
@@ -79,14 +79,14 @@ impl State {
 
     // "New cycle: always succeeds"
     pub fn new_cycle(self, start: Time) -> Step
-        ensures { λ r. ⌜ Steps self (newCycle (start .seconds)) r ⌝ }
+        ensures { λ r. ⌜ Steps self (newCycle (start .seconds)) (numberOf (r .answer)) (r .state) ⌝ }
     {
         accepted(self.trusted.with_start(start))
     }
 
     // "Root (1 to 6, 9, 10, 11)": the row of verdicts under the held root's keys, and the one under its own
     pub fn root(self, file: &[u8], held: &[u8], own: &[u8]) -> Step
-        ensures { λ r. ⌜ Steps self (newRoot (record { file = now (file .entry); heldRow = now (held .entry); ownRow = now (own .entry) })) r ⌝ }
+        ensures { λ r. ⌜ Steps self (newRoot (record { file = now (file .entry); heldRow = now (held .entry); ownRow = now (own .entry) })) (numberOf (r .answer)) (r .state) ⌝ }
     {
         let read = root_file::read_root(file);
         if read.answer != 0 {
@@ -101,7 +101,7 @@ impl State {
 
     // "Timestamp (1 to 7, 9, 11 to 14)"
     pub fn timestamp(self, file: &[u8], row: &[u8]) -> Step
-        ensures { λ r. ⌜ Steps self (newTimestamp (record { file = now (file .entry); row = now (row .entry) })) r ⌝ }
+        ensures { λ r. ⌜ Steps self (newTimestamp (record { file = now (file .entry); row = now (row .entry) })) (numberOf (r .answer)) (r .state) ⌝ }
     {
         let read = timestamp_file::read_timestamp(file);
         if read.answer != 0 {
@@ -116,7 +116,7 @@ impl State {
 
     // "Snapshot (1 to 9, 11, 13, 14)"
     pub fn snapshot(self, file: &[u8], row: &[u8], digest: &[u8]) -> Step
-        ensures { λ r. ⌜ Steps self (newSnapshot (record { file = now (file .entry); row = now (row .entry); digest = now (digest .entry) })) r ⌝ }
+        ensures { λ r. ⌜ Steps self (newSnapshot (record { file = now (file .entry); row = now (row .entry); digest = now (digest .entry) })) (numberOf (r .answer)) (r .state) ⌝ }
     {
         let read = snapshot_file::read_snapshot(file);
         if read.answer != 0 {
@@ -138,7 +138,7 @@ impl State {
     }
     // "Targets (1 to 9, 11, 14)": "The file's digest is kept". No path is asked for.
     pub fn targets(self, file: &[u8], row: &[u8], digest: &[u8]) -> Step
-        ensures { λ r. ⌜ Steps self (newTargets (record { file = now (file .entry); row = now (row .entry); digest = now (digest .entry) })) r ⌝ }
+        ensures { λ r. ⌜ Steps self (newTargets (record { file = now (file .entry); row = now (row .entry); digest = now (digest .entry) })) (numberOf (r .answer)) (r .state) ⌝ }
     {
         let read = targets_file::read_targets(file, b"");
         if read.answer != 0 {
@@ -169,7 +169,7 @@ impl State {
 
     // "Find (1 to 8, 15)": "Success gives length and sha256; a refusal gives zeros"
     pub fn find(self, file: &[u8], digest: &[u8], path: &[u8]) -> Image
-        ensures { λ r. ⌜ FindsImage self (record { file = now (file .entry); digest = now (digest .entry); path = now (path .entry) }) r ⌝ }
+        ensures { λ r. ⌜ FindsImage self (record { file = now (file .entry); digest = now (digest .entry); path = now (path .entry) }) (numberOf (r .answer)) (viewImage r) ⌝ }
     {
         let read = targets_file::read_targets(file, path);
         if read.answer != 0 {
@@ -189,7 +189,7 @@ impl State {
 
     // "a held root's public key by keyid": 6 and 15
     pub fn key(self, keyid: &[u8]) -> PublicKey
-        ensures { λ r. ⌜ GivesKey self (now (keyid .entry)) r ⌝ }
+        ensures { λ r. ⌜ GivesKey self (now (keyid .entry)) (numberOf (r .answer)) (viewId (r .public)) ⌝ }
     {
         if self.trusted.lacks_root() {
             return no_key(Answer::NotHeld);

@@ -43,7 +43,7 @@ returns-3 c =
     let f = targets-read _ _ (t .result) (t .ensures) (c .before .before .before .if1 .left) in
     let j = c .before .before .judge-find in
     let k = j .ensures _ (record { digest-is = refl; path-is = refl }) (f .targets) (record { listed-is = image-listed _ _ _ _ (f .image) }) _ in
-    find-found _ _ _ (f .targets) _ (f .said) (sym k ∙ c .before .if2 .left) refl _ (f .image)
+    find-found _ _ (f .targets) _ (f .said) (sym k ∙ c .before .if2 .left) refl _ _ (f .image)
 
 pub find-spec : {M : Type 1} → statement M
 find-spec =
