@@ -2,6 +2,7 @@ pub mod Rows
 pub mod KindLaws
 pub mod Place
 pub mod Chars
+pub mod PlainLaws
 pub mod Cases
 pub mod Rest
 pub mod Words

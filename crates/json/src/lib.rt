@@ -7,12 +7,15 @@ ghost use lib.ListN.{length, drop, getD};
 ghost use Rattle.base.specs.Bytes.{less};
 ghost use Rattle.json.specs.Lead.{leadOf};
 ghost use Rattle.json.specs.Read.{endOf, chars, esc, readStr, kindOf, word as wordOf, number as numberOf, array as arrayOf, object as objectOf, member as memberOf, rises, read, raw};
-ghost use Rattle.json.specs.Strings.{Skips};
+ghost use Rattle.json.specs.Strings.{Skips, plain, PlainRun};
 ghost use Rattle.json.specs.Names.{CharRead, lastOf};
 ghost use Rattle.json.specs.Json.{Canonical, maxDepth};
 
 // How deep objects and arrays may hold one another.
 pub const MAX_DEPTH: u8 = 8;
+
+// How many bytes of a string are tested together.
+const BLOCK: usize = 16;
 
 // What a lead byte begins.
 pub enum LeadByte {
@@ -152,11 +155,50 @@ fn char_end(s: &[u8], i: usize) -> Skip
     }
 }
 
-// The string whose opening quote stands just before `at`.
+// Whether the byte stands for itself in a string, and takes no other with it.
+fn is_plain(b: u8) -> bool
+    ensures { λ r. ⌜ r ≡ plain b ⌝ }
+{
+    (31 < b) & (b < 128) & (b != b'"') & (b != b'\\')
+}
+
+// Whether the bytes of a block are plain. They are tested together: no branch for each.
+fn is_plain_block(s: &[u8], at: usize) -> bool
+    requires { ⌜ at + 16 ≤ length (now s) ⌝ }
+    ensures { λ r. ⌜ (r ≡ true → PlainRun (now (s .entry)) at 16) ⌝ }
+{
+    let mut all = true;
+    let mut k: usize = 0;
+    while k < BLOCK {
+        let one = is_plain(s[at + k]);
+        all = all & one;
+        k += 1;
+    }
+    all
+}
+
+// Past the blocks of plain bytes that stand at `at`.
+fn plain_end(s: &[u8], at: usize) -> usize
+    ensures { λ r. ⌜ endOf (length (now (s .entry))) (readStr (drop at (now (s .entry)))) ≡ endOf (length (now (s .entry))) (readStr (drop r (now (s .entry)))) ⌝ }
+{
+    let mut i = at;
+    while i < s.len() {
+        if s.len() - i < BLOCK {
+            return i;
+        }
+        if !is_plain_block(s, i) {
+            return i;
+        }
+        i += BLOCK;
+    }
+    i
+}
+
+// The string whose opening quote stands just before `at`. Long runs of plain bytes come first: they are most of what is read.
 pub fn string(s: &[u8], at: usize) -> Skip
     ensures { λ r. ⌜ r ≡ endOf (length (now (s .entry))) (readStr (drop at (now (s .entry)))) ⌝ }
 {
-    let mut i = at;
+    let mut i = plain_end(s, at);
     while i < s.len() {
         if s[i] == b'"' {
             return Skip::End(i + 1);

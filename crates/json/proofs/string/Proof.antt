@@ -17,8 +17,11 @@ Inv-loop s at i₀ i = endOf (length s) (readStr (drop at s)) ≡ endOf (length 
 abbrev μ-loop : tie.MeasureT-loop
 μ-loop s at i₀ i = length s - i
 
+plain-end-requires : tie.Need-plain-end-requires Inv-loop μ-loop
+plain-end-requires c κs = search needs
+
 loop-holds : tie.Need-loop-holds Inv-loop μ-loop
-loop-holds c = search needs
+loop-holds c = c .plain-end .ensures
 
 shared-slice-read-if1 : tie.Need-shared-slice-read-if1 Inv-loop μ-loop
 shared-slice-read-if1 c = search needs
@@ -29,7 +32,7 @@ add-t9 c = search needs
 returns : tie.Need-returns Inv-loop μ-loop
 returns c =
     let l = c .before .before .before in
-    let s = l .before .before .args .s .now in
+    let s = l .before .before .before .args .s .now in
     sym (l .loop .inv ∙ strings.quote s (l .loop .i) (c .before .before .loop-test .taken) (c .if1 .taken))
 
 char-end-requires : tie.Need-char-end-requires Inv-loop μ-loop
@@ -41,7 +44,7 @@ enum-told c = search needs
 returns-2 : tie.Need-returns-2 Inv-loop μ-loop
 returns-2 c =
     let l = c .before .before .before .before .before .before in
-    let s = l .before .before .args .s .now in
+    let s = l .before .before .before .args .s .now in
     let e : Skips s (readStr (drop (l .loop .i) s)) (l .loop .i + 1) No = rw (c .enum-told .given .1) at (c .before .before .char-end .ensures) in
     sym (l .loop .inv ∙ e)
 
@@ -51,21 +54,21 @@ enum-known-e c = search needs
 loop-less : tie.Need-loop-less Inv-loop μ-loop
 loop-less c =
     let l = c .before .before .before .before .before .before .before in
-    let s = l .before .before .args .s .now in
+    let s = l .before .before .before .args .s .now in
     let e : Skips s (readStr (drop (l .loop .i) s)) (l .loop .i + 1) (End (c .before .e .given .0 .0)) = rw (c .before .e .given .1) at (c .before .before .before .char-end .ensures) in
     omega (arith, e .1, c .before .before .before .before .before .before .loop-test .taken)
 
 loop-again : tie.Need-loop-again Inv-loop μ-loop
 loop-again c =
     let l = c .before .before .before .before .before .before .before in
-    let s = l .before .before .args .s .now in
+    let s = l .before .before .before .args .s .now in
     let e : Skips s (readStr (drop (l .loop .i) s)) (l .loop .i + 1) (End (c .before .e .given .0 .0)) = rw (c .before .e .given .1) at (c .before .before .before .char-end .ensures) in
     l .loop .inv ∙ e .0
 
 returns-3 : tie.Need-returns-3 Inv-loop μ-loop
 returns-3 c =
     let l = c .before in
-    let s = l .before .before .args .s .now in
+    let s = l .before .before .before .args .s .now in
     sym (l .loop .inv ∙ strings.over s (l .loop .i) 0 0 0 (c .loop-test .left))
 
 pub string-spec : {M : Type 1} → statement M
@@ -74,6 +77,7 @@ string-spec =
     (tie.spec
     Inv-loop
     μ-loop
+    plain-end-requires
     loop-holds
     shared-slice-read-if1
     add-t9
