@@ -3,17 +3,15 @@ use mathlib.Core.Path.{_≡_, refl, sym, _∙_}
 use mathlib.Core.Option.{Option, none, some, bind}
 use mathlib.Core.List.{List, []}
 use mathlib.Core.Bool.{Bool, true, false}
-use Prim.Native.Nat.{ℕ, _-_, _<_, _≤_}
-use native.Mathlib.Omega.{arith}
+use Prim.Native.Nat.{ℕ, _<_, _≤_}
 use lib.ListN.{length}
 use borrow.Author.Tests.{le-leb, lt-leb}
 use Rattle.base.specs.Bytes.{Bytes, bytes}
 use Rattle.json.specs.Json.{Json, Members, put, Canonical, maxDepth}
 use Rattle.json.specs.Fields.{members, lookup, field, keep, placeOf}
-use Rattle.lookup.specs.Place.{Stands, PlaceOf, Takes, EndsAt, viewFound, FindsMember}
+use Rattle.lookup.specs.Place.{Stands, PlaceOf, Takes, viewFound, FindsMember}
 use Rattle.lookup.specs.declared.Found.{Found}
 use Rattle.lookup.specs.declared.Found.the-variants.{Nothing, At}
-use Rattle.lookup.proofs.StandsLaws.{end-found, end-is}
 use Rattle.rules.specs.Limits.{maxFile}
 use Rattle.rules.specs.Take.{_>>=_, must}
 use Rattle.rules.specs.Records.{Entry}
@@ -27,7 +25,6 @@ use Rattle.forms.proofs.StepLaws.{stop}
 use Rattle.envelope.specs.Header.{keyids}
 use Rattle.envelope.specs.Open.{object, IsShut, Opens}
 use Rattle.envelope.specs.declared.Opened.{Opened}
-use Rattle.lookup.proofs.PlacedLaws.{value-length}
 
 -- ## The envelope's steps
 
@@ -163,16 +160,9 @@ module _ (file : Bytes) (r : Opened) where
               unfolding keep
               opens-scalar p x = broken (signed-other (c .0) (signed .0) start (signed .1) place (rw p at (o (signed .0) (signed .2)))) x
 
-              module _ (g : Found) (ends : EndsAt file start g) where
-                pub opens-endless : {A : Type 0} → g ≡ Nothing → A
-                opens-endless p = absurd (end-found file start (signed .0) (signed .2) ends p)
-
-                pub opens-all : ok ≡ true → is ≡ true → (end : ℕ) → g ≡ At end → r .answer ≡ 0 → r .start ≡ start → r .length ≡ end - start → viewEntries (r .entries) ≡ ks
-                    → Opens file r (readEnvelope file)
-                unfolding opened keep
-                opens-all y z end p a b l k =
-                    let es = entries-there (c .0) ok ks (t (c .0) here) y in
-                    let n = end-is file start (signed .0) (signed .2) ends end p in
-                    let m = value-length file start (signed .0) (signed .2) in
-                    rw (reads, ← signed-object (c .0) (signed .0) start (signed .1) place (rw z at (o (signed .0) (signed .2))) (es .0) (es .1))
-                    (record { answer = a; start = b; length = omega arith; keyids = k ∙ es .2; stands = moved b (signed .2) })
+              pub opens-all : ok ≡ true → is ≡ true → r .answer ≡ 0 → r .start ≡ start → viewEntries (r .entries) ≡ ks → Opens file r (readEnvelope file)
+              unfolding opened keep
+              opens-all y z a b k =
+                  let es = entries-there (c .0) ok ks (t (c .0) here) y in
+                  rw (reads, ← signed-object (c .0) (signed .0) start (signed .1) place (rw z at (o (signed .0) (signed .2))) (es .0) (es .1))
+                  (record { answer = a; start = b; size = refl; keyids = k ∙ es .2; stands = moved b (signed .2) })

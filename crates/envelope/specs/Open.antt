@@ -1,12 +1,13 @@
 -- What an opened file says: its envelope, and then its header.
 use mathlib.Core.Path.{_≡_}
 use mathlib.Core.Option.{Option, none, some}
-use mathlib.Core.List.{List}
+use mathlib.Core.List.{List, []}
 use mathlib.Core.Bool.{cond}
 use Prim.Native.Nat.{ℕ}
 use lib.Dec.{eqb}
+use lib.ListN.{length}
 use Rattle.base.specs.Bytes.{Bytes}
-use Rattle.json.specs.Json.{Json}
+use Rattle.json.specs.Json.{Json, put}
 use Rattle.json.specs.Fields.{members, keep}
 use Rattle.lookup.specs.Place.{Stands}
 use Rattle.rules.specs.Take.{_>>=_}
@@ -29,15 +30,14 @@ object v = members v >>= λ _. some tt
 pub record IsOpen (file : Bytes) (r : Opened) (e : Envelope) : Type 0 where
   pub answer : r .answer ≡ 0
   pub start : r .start ≡ e .start
-  pub length : r .length ≡ e .length
+  pub size : e .length ≡ length (put (e .signed) [])
   pub keyids : viewEntries (r .entries) ≡ keyidsOf (e .entries)
   pub stands : Stands file (r .start) (e .signed)
 
--- a refusal gives an empty part and no entries
+-- a refusal gives no entries
 pub record IsShut (r : Opened) (number : ℕ) : Type 0 where
   pub answer : r .answer ≡ number
   pub start : r .start ≡ 0
-  pub length : r .length ≡ 0
   pub count : r .entries .count ≡ 0
 
 abbrev pub Opens : Bytes → Opened → Read Envelope → Type 0

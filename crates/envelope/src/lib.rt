@@ -279,11 +279,10 @@ fn is_object(s: &[u8], at: usize) -> bool
     }
 }
 
-// An envelope that was opened: the signed part by its place and length, and the keyids of its entries.
+// An envelope that was opened: the place of the signed part, and the keyids of its entries.
 pub struct Opened {
     pub answer: u8,
     pub start: usize,
-    pub length: usize,
     pub entries: Entries,
 }
 
@@ -293,7 +292,6 @@ fn shut(answer: u8) -> Opened
     Opened {
         answer,
         start: 0,
-        length: 0,
         entries: no_ids(),
     }
 }
@@ -320,20 +318,12 @@ pub fn open_envelope(file: &[u8]) -> Opened
             if !is_object(file, start) {
                 return shut(BAD_FORM);
             }
-            match lookup::value_end(file, start) {
-                Found::Nothing => {
-                    return shut(BAD_FORM);
-                }
-                Found::At(end) => {
-                    let entries = read.entries;
-                    return Opened {
-                        answer: 0,
-                        start,
-                        length: end - start,
-                        entries,
-                    };
-                }
-            }
+            let entries = read.entries;
+            return Opened {
+                answer: 0,
+                start,
+                entries,
+            };
         }
     }
 }

@@ -6,17 +6,24 @@ use native.Mathlib.Omega.{arith}
 use lib.ListN.{length, take, drop, length-map}
 use Rattle.base.specs.Bytes.{Bytes}
 use Rattle.base.proofs.WindowLaws.{run-length}
+use Rattle.lookup.specs.Place.{EndsAt}
+use Rattle.lookup.specs.declared.Found.{Found}
+use Rattle.lookup.specs.declared.Found.the-variants.{Nothing, At}
+use Rattle.lookup.proofs.StandsLaws.{end-found, end-is}
+use Rattle.lookup.proofs.PlacedLaws.{value-length}
 use Rattle.rules.specs.Limits.{maxEntries}
 use Rattle.rules.specs.Records.{Entry, Read, refused, says}
 use Rattle.rules.specs.Forms.{Envelope}
 use Rattle.rules.specs.Reading.{keyidsOf, readEnvelope}
 use Rattle.rules.specs.Asked.{Look, lookOf, look, signedPart}
 use Rattle.rules.proofs.ReadingLaws.{signed-part}
+use Rattle.rules.proofs.TableLaws.{fault-refuses}
 use Rattle.answers.proofs.MostLaws.{fault-most, named}
 use Rattle.records.specs.declared.Entries.{Entries}
 use Rattle.records.specs.View.{firsts, viewEntries}
 use Rattle.envelope.specs.declared.Opened.{Opened}
-use Rattle.envelope.specs.Open.{Opens}
+use Rattle.envelope.specs.Open.{IsOpen, Opens}
+use Rattle.inspect.specs.View.{noLook}
 
 -- ## The answer
 
@@ -30,22 +37,42 @@ looks : (answer start length entries : ℕ) (l : Look) → answer ≡ l .answer 
     → record { answer = answer; start = start; length = length; entries = entries } ≡ l
 looks answer start length entries l a s n e = rw (a, s, n, e)
 
-pub look-is : (file : Bytes) (o : Opened) (answer entries : ℕ) → Opens file o (readEnvelope file) → answer ≡ min (o .answer) 15
-    → entries ≡ min (o .entries .count) maxEntries
-    → record { answer = answer; start = o .start; length = o .length; entries = entries } ≡ look file
-unfolding look lookOf
-look-is file o answer entries w a n = go (readEnvelope file) w
-  where
-    none-meant : (m : ℕ) → m ≡ 0 → entries ≡ min m maxEntries → entries ≡ 0
-    none-meant m z n = omega arith
+-- an accepted look
+abbrev seen : ℕ → ℕ → ℕ → Look
+seen start length entries = record { answer = 0; start = start; length = length; entries = entries }
 
-    go : (e : Read Envelope) → Opens file o e → record { answer = answer; start = o .start; length = o .length; entries = entries } ≡ lookOf e
-    go (refused f) w =
-        looks answer (o .start) (o .length) entries (lookOf (refused f)) (named a (w .answer) (fault-most f)) (w .start) (w .length)
-        (none-meant (o .entries .count) (w .count) n)
-    go (says e ks) w =
-        looks answer (o .start) (o .length) entries (lookOf (says e ks)) (named a (w .answer) (omega arith)) (w .start) (w .length)
-        (n ∙ counted (o .entries) (e .entries) (w .keyids))
+module _ (file : Bytes) (o : Opened) (w : Opens file o (readEnvelope file)) where
+  pub look-refused : (o .answer ≡ 0 → ⊥) → (n : ℕ) → n ≡ min (o .answer) 15 → noLook n ≡ look file
+  unfolding look lookOf noLook
+  look-refused z n a = go (readEnvelope file) w
+    where
+      go : (e : Read Envelope) → Opens file o e → noLook n ≡ lookOf e
+      go (refused f) w = rw (named a (w .answer) (fault-most f))
+      go (says e ks) w = absurd (z (w .answer))
+
+  module _ (z : o .answer ≡ 0) (g : Found) (ends : EndsAt file (o .start) g) where
+    -- what the look gives, by the envelope that was opened
+    opens : (P : Look → Type 0) → ((e : Envelope) → IsOpen file o e → P (seen (e .start) (e .length) (length (e .entries)))) → P (look file)
+    unfolding look lookOf
+    opens P f = go (readEnvelope file) w
+      where
+        go : (e : Read Envelope) → Opens file o e → P (lookOf e)
+        go (refused f) w = absurd (fault-refuses f (sym (w .answer) ∙ z))
+        go (says e ks) w = f e w
+
+    pub look-endless : (P : Look → Type 0) → g ≡ Nothing → P (look file)
+    look-endless P q = opens P (λ e x. absurd (end-found file (o .start) (e .signed) (x .stands) ends q))
+
+    pub look-is : (end entries : ℕ) → g ≡ At end → entries ≡ min (o .entries .count) maxEntries
+        → seen (o .start) (end - o .start) entries ≡ look file
+    look-is end entries q n = opens (λ (l : Look). seen (o .start) (end - o .start) entries ≡ l) go
+      where
+        go : (e : Envelope) → IsOpen file o e → seen (o .start) (end - o .start) entries ≡ seen (e .start) (e .length) (length (e .entries))
+        go e x =
+            let i = end-is file (o .start) (e .signed) (x .stands) ends end q in
+            let m = value-length file (o .start) (e .signed) (x .stands) in
+            let s = x .size in
+            looks 0 (o .start) (end - o .start) entries (seen (e .start) (e .length) (length (e .entries))) refl (x .start) (omega arith) (n ∙ counted (o .entries) (e .entries) (x .keyids))
 
 -- ## The part
 

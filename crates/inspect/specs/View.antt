@@ -1,4 +1,5 @@
 -- What the answers stand for in the paper's records.
+use Prim.Native.Nat.{ℕ}
 use Rattle.base.specs.Window.{window}
 use Rattle.rules.specs.Limits.{signatureSize}
 use Rattle.rules.specs.Asked.{Look, EntryAsked}
@@ -9,6 +10,10 @@ use Rattle.inspect.specs.declared.EntryRead.{EntryRead}
 
 unfoldable pub viewLook : Looked → Look
 viewLook r = record { answer = numberOf (r .answer); start = r .start; length = r .length; entries = r .entries }
+
+-- a refused look
+unfoldable pub noLook : ℕ → Look
+noLook n = record { answer = n; start = 0; length = 0; entries = 0 }
 
 unfoldable pub viewEntryRead : EntryRead → EntryAsked
 viewEntryRead r =

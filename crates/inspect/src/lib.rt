@@ -6,7 +6,7 @@ ghost use Rattle.lookup.specs.Place.{Finds};
 ghost use Rattle.rules.specs.Take.{must};
 ghost use Rattle.rules.specs.Asked.{look as lookInto, signedPart, noEntry, entryAt};
 ghost use Rattle.answers.specs.Number.{numberOf};
-ghost use Rattle.inspect.specs.View.{viewLook, viewEntryRead};
+ghost use Rattle.inspect.specs.View.{viewLook, noLook, viewEntryRead};
 ghost use Rattle.inspect.specs.Elements.{elementAt};
 use answers::Answer;
 use lookup::Element;
@@ -23,17 +23,41 @@ pub struct Looked {
     pub entries: usize,
 }
 
+// "A refused look gives an empty part and 0".
+fn no_look(answer: Answer) -> Looked
+    ensures { λ r. ⌜ viewLook r ≡ noLook (numberOf answer) ⌝ }
+{
+    Looked {
+        answer,
+        start: 0,
+        length: 0,
+        entries: 0,
+    }
+}
+
 pub fn look(file: &[u8]) -> Looked
     ensures { λ r. ⌜ viewLook r ≡ lookInto (now (file .entry)) ⌝ }
 {
     let opened = envelope::open_envelope(file);
-    let answer = answers::numbered(opened.answer);
+    if opened.answer != 0 {
+        let refusal = answers::numbered(opened.answer);
+        return no_look(refusal);
+    }
+    let start = opened.start;
     let entries = records::at_most(opened.entries.count, records::MAX_ENTRIES);
-    Looked {
-        answer,
-        start: opened.start,
-        length: opened.length,
-        entries,
+    match lookup::value_end(file, start) {
+        // the signed part stands at its place, so that it ends
+        Found::Nothing => {
+            return no_look(Answer::BadForm);
+        }
+        Found::At(end) => {
+            return Looked {
+                answer: Answer::Accepted,
+                start,
+                length: end - start,
+                entries,
+            };
+        }
     }
 }
 

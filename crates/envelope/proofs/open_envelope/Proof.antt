@@ -1,12 +1,10 @@
 -- `open_envelope` meets its contract.
 use borrow.Author.Needs.{needs}
 use mathlib.Core.Path.{refl, sym, _∙_}
-use native.Mathlib.Omega.{arith}
 use borrow.Author.Tests.{not-true, not-false}
 use Rattle.base.proofs.TestLaws.{never}
-use Rattle.lookup.proofs.StandsLaws.{place-after}
 use Rattle.envelope.specs.Header.{viewEntriesAt}
-use Rattle.envelope.proofs.OpenLaws.{opens-long, opens-other, opens-unsigned, opens-nothing, opens-scalar, opens-endless, opens-all}
+use Rattle.envelope.proofs.OpenLaws.{opens-long, opens-other, opens-unsigned, opens-nothing, opens-scalar, opens-all}
 use Rattle.envelope.proofs.open_envelope.Statement.{statement}
 use Rattle.envelope.proofs.open_envelope.Tie as tie
 
@@ -64,28 +62,9 @@ returns-5 : tie.Need-returns-5
 unfolding viewEntriesAt
 returns-5 c = opens-scalar (c .before .before .before .before .before .before .before .before .before .before .before .before .before .before .before .args .file .now) (c .shut5 .result) (c .before .before .before .before .before .before .before .before .before .before .before .before .before .if1 .left) (c .before .before .before .before .before .before .before .before .before .before .before .before .is-canonical .ensures .0 (not-false _ (c .before .before .before .before .before .before .before .before .before .before .before .if2 .left))) _ _ (c .before .before .before .before .before .before .before .before .before .before .entries-field .ensures) _ (c .before .before .before .before .before .before .find-member .ensures) _ (c .before .before .before .before .start .given .1) _ (c .before .before .is-object .ensures) (not-true _ (c .before .if4 .taken)) (c .shut5 .ensures)
 
-value-end-requires : tie.Need-value-end-requires
-value-end-requires c κs = search needs
-
-enum-told-2 : tie.Need-enum-told-2
-enum-told-2 c = search needs
-
-shut-requires-6 : tie.Need-shut-requires-6
-shut-requires-6 c κs = search needs
-
 returns-6 : tie.Need-returns-6
 unfolding viewEntriesAt
-returns-6 c = opens-endless (c .before .before .before .before .before .before .before .before .before .before .before .before .before .before .before .before .before .before .args .file .now) (c .shut6 .result) (c .before .before .before .before .before .before .before .before .before .before .before .before .before .before .before .before .if1 .left) (c .before .before .before .before .before .before .before .before .before .before .before .before .before .before .before .is-canonical .ensures .0 (not-false _ (c .before .before .before .before .before .before .before .before .before .before .before .before .before .before .if2 .left))) _ _ (c .before .before .before .before .before .before .before .before .before .before .before .before .before .entries-field .ensures) _ (c .before .before .before .before .before .before .before .before .before .find-member .ensures) _ (c .before .before .before .before .before .before .before .start .given .1) _ (c .before .before .before .before .before .is-object .ensures) _ (c .before .before .before .value-end .ensures) (c .before .enum-told2 .given .1)
-
-enum-known-end : tie.Need-enum-known-end
-enum-known-end c = search needs
-
-sub-t16 : tie.Need-sub-t16
-sub-t16 c = let p = place-after (c .before .before .before .before .before .before .before .before .before .before .before .before .before .before .before .before .before .before .before .args .file .now) _ _ (c .before .before .before .before .value-end .ensures .onward) _ (c .before .before .end .given .1) .0 in omega arith
-
-returns-7 : tie.Need-returns-7
-unfolding viewEntriesAt
-returns-7 c = opens-all (c .before .before .before .before .before .before .before .before .before .before .before .before .before .before .before .before .before .before .before .args .file .now) _ (c .before .before .before .before .before .before .before .before .before .before .before .before .before .before .before .before .before .if1 .left) (c .before .before .before .before .before .before .before .before .before .before .before .before .before .before .before .before .is-canonical .ensures .0 (not-false _ (c .before .before .before .before .before .before .before .before .before .before .before .before .before .before .before .if2 .left))) _ _ (c .before .before .before .before .before .before .before .before .before .before .before .before .before .before .entries-field .ensures) _ (c .before .before .before .before .before .before .before .before .before .before .find-member .ensures) _ (c .before .before .before .before .before .before .before .before .start .given .1) _ (c .before .before .before .before .before .before .is-object .ensures) _ (c .before .before .before .before .value-end .ensures) (not-false _ (c .before .before .before .before .before .before .before .before .before .before .before .before .if3 .left)) (not-false _ (c .before .before .before .before .before .if4 .left)) _ (c .before .before .end .given .1) refl refl refl refl
+returns-6 c = opens-all (c .before .before .before .before .before .before .before .before .before .before .before .before .before .before .before .args .file .now) _ (c .before .before .before .before .before .before .before .before .before .before .before .before .before .if1 .left) (c .before .before .before .before .before .before .before .before .before .before .before .before .is-canonical .ensures .0 (not-false _ (c .before .before .before .before .before .before .before .before .before .before .before .if2 .left))) _ _ (c .before .before .before .before .before .before .before .before .before .before .entries-field .ensures) _ (c .before .before .before .before .before .before .find-member .ensures) _ (c .before .before .before .before .start .given .1) _ (c .before .before .is-object .ensures) (not-false _ (c .before .before .before .before .before .before .before .before .if3 .left)) (not-false _ (c .before .if4 .left)) refl refl refl
 
 pub open-envelope-spec : {M : Type 1} → statement M
 open-envelope-spec =
@@ -108,10 +87,4 @@ open-envelope-spec =
     is-object-requires
     shut-requires-5
     returns-5
-    value-end-requires
-    enum-told-2
-    shut-requires-6
-    returns-6
-    enum-known-end
-    sub-t16
-    returns-7)
+    returns-6)
