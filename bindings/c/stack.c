@@ -68,9 +68,17 @@ static void undo(const char *hex)
 
 /* ---- Counting */
 
-static void measure(const char *name, void (*call)(void))
+static size_t taken(void)
 {
     size_t unused = 0;
+    while (unused < sizeof stack && stack[unused] == FILL) {
+        unused++;
+    }
+    return sizeof stack - unused;
+}
+
+static void run(void (*call)(void))
+{
     memset(stack, FILL, sizeof stack);
     answer = GW_NOT_LISTED;
     getcontext(&there);
@@ -79,16 +87,18 @@ static void measure(const char *name, void (*call)(void))
     there.uc_link = &here;
     makecontext(&there, call, 0);
     swapcontext(&here, &there);
-    while (unused < sizeof stack && stack[unused] == FILL) {
-        unused++;
-    }
-    /* Less than a state has was not measured at all; is_canonical alone is given none. */
-    if (answer == GW_ACCEPTED && sizeof stack - unused <= STATED && (sizeof stack - unused > GW_STATE_SIZE || call == is_canonical)) {
+}
+
+static void measure(const char *name, void (*call)(void))
+{
+    run(call);
+    /* Less than a state has would mean that nothing was measured; is_canonical alone is given none. */
+    if (answer == GW_ACCEPTED && taken() <= STATED && (taken() > GW_STATE_SIZE || call == is_canonical)) {
         passed++;
-    } else {
-        failed++;
-        printf("stack.c: %s answers %d and takes %zu bytes of stack; stated is at most %d\n", name, (int)answer, sizeof stack - unused, STATED);
+        return;
     }
+    failed++;
+    printf("stack.c: %s answers %d and takes %zu bytes of stack; stated: 0, and at most %d\n", name, (int)answer, taken(), STATED);
 }
 
 int main(int argc, char **argv)
