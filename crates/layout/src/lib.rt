@@ -4,6 +4,9 @@
 ghost use mathlib.Core.Path.{_≡_};
 ghost use lib.Dec.{eqb};
 ghost use lib.ListN.{replicate};
+ghost use Rattle.rules.specs.State.{blank as blankState, newCycle};
+ghost use Rattle.rules.specs.Steps.{next};
+ghost use Rattle.tuf.specs.View.{view};
 use capi::EntryRead;
 use capi::Image;
 use capi::Looked;
@@ -71,14 +74,16 @@ fn id(mark: u8) -> Id
 
 // ---- Structs that hold a state: its start time is the mark
 
-fn state_at(start: i64) -> State {
+fn state_at(start: i64) -> State
+    ensures { λ r. ⌜ view r ≡ next blankState (newCycle start) ⌝ }
+{
     let step = State::blank().new_cycle(Time { seconds: start });
     step.state
 }
 
 #[no_mangle]
 pub extern "C" fn layout_state(start: i64) -> States
-    ensures { λ r. ⌜ r .second ≡ r .first ⌝ }
+    ensures { λ r. ⌜ (view (r .first) ≡ next blankState (newCycle start)) × (r .second ≡ r .first) ⌝ }
 {
     let one = state_at(start);
     States {
@@ -89,7 +94,7 @@ pub extern "C" fn layout_state(start: i64) -> States
 
 #[no_mangle]
 pub extern "C" fn layout_step(answer: u8, start: i64) -> Steps
-    ensures { λ r. ⌜ (r .first .answer ≡ answer) × (r .second ≡ r .first) ⌝ }
+    ensures { λ r. ⌜ (r .first .answer ≡ answer) × (view (r .first .state) ≡ next blankState (newCycle start)) × (r .second ≡ r .first) ⌝ }
 {
     let state = state_at(start);
     let one = Step { answer, state };
