@@ -1,17 +1,20 @@
 /*
  * Gronwythal: which file on an untrusted shared store to believe, by The Update Framework (TUF).
  *
- * Link libgronwythal.a (x86-64 Linux). Nothing is allocated, nothing is global, no call blocks: a trusted state is one value of
+ * Link libgronwythal.a (x86-64 Linux); `./build` makes it, and README.md says how. Of the C library it needs memcpy and memset alone.
+ * Nothing is allocated, nothing is global, no call blocks, and every call may be made in any thread: a trusted state is one value of
  * GW_STATE_SIZE bytes that the caller keeps, and every call is a function of its arguments. Any bytes, verdicts and clock are answered; no
  * call asks that anything be checked before it. A refusal leaves the state as it was.
  *
  * Use the functions gw_*. They are thin: each passes the state by value to the function gronwythal_* of the archive, which is proved to
- * answer as the paper says, and stores the state that comes back.
+ * answer as the paper says, and stores the state that comes back. A call takes at most 48 KiB of stack, the copies of the state included.
  *
- * Bytes are lent as a pointer and a length, for the time of the call, and never written. A null pointer may be lent with length 0.
+ * Bytes are lent as a pointer and a length, for the time of the call, and never written. A null pointer stands for no bytes: lend it with
+ * length 0 only.
  *
- * A verdict row has one byte for each signature entry of the file, in file order: 1 if it verifies over the signed part under the key of
- * its keyid, else 0. Digests are SHA-256. See examples/c for a whole controller.
+ * A verdict row has one byte for each signature entry of the file, in file order: 1 if the entry's signature verifies over the signed part
+ * under the key of its keyid, else 0; so it is 0 where no such key is known. Checking signatures is the caller's, and so are digests, which
+ * are SHA-256 of a whole file: gw_signed_part, gw_entry_at and gw_key give what a check needs. See examples/c for a whole controller.
  */
 #ifndef GRONWYTHAL_H
 #define GRONWYTHAL_H
@@ -24,7 +27,7 @@
 extern "C" {
 #endif
 
-/* ---- Sizes and limits */
+/* ---- Sizes and limits. A file, row or path beyond them is answered too: with a refusal. */
 
 #define GW_STATE_SIZE 4608     /* bytes of a trusted state */
 #define GW_MAX_FILE 32768      /* bytes of a file of metadata */
@@ -34,7 +37,8 @@ extern "C" {
 #define GW_ID_SIZE 32          /* bytes of a keyid, a public key or a digest */
 #define GW_SIGNATURE_SIZE 64   /* bytes of a signature */
 
-/* ---- Answers: the lowest number whose condition holds, of those that the call uses; 0 if none */
+/* ---- Answers: the lowest number whose condition holds, of those that the call uses; 0 if none. Each call below says in brackets which
+   refusals it uses. A call that does not answer GW_ACCEPTED has changed nothing, but for gw_install. */
 
 typedef enum gw_answer {
     GW_ACCEPTED = 0,
@@ -49,7 +53,7 @@ typedef enum gw_answer {
     GW_FEW_HELD_KEYS = 9,  /* too few different keys of the held root */
     GW_FEW_OWN_KEYS = 10,  /* too few different keys of the new root itself */
     GW_WRONG_VERSION = 11, /* wrong version */
-    GW_NO_NEWS = 12,       /* same timestamp version: normal, no news */
+    GW_NO_NEWS = 12,       /* same timestamp version: normal, no news; go on with what is held */
     GW_WENT_BACK = 13,     /* a listed version went back, or a name vanished */
     GW_FILE_EXPIRED = 14,  /* the offered file has expired */
     GW_NOT_LISTED = 15     /* not listed */
@@ -57,7 +61,11 @@ typedef enum gw_answer {
 
 /* ---- Values */
 
-/* The trusted state. Its bytes are the library's own: begin with gw_blank or gw_install, and keep what comes back. */
+/*
+ * The trusted state. Its bytes are the library's own: begin with gw_blank or gw_install, and keep what comes back. It may be copied by
+ * assignment, and stored and read back by a program with the same archive; whoever can write where it is stored decides what is trusted.
+ * Do not compare two by their bytes: some of them are padding.
+ */
 typedef struct gw_state {
     uint64_t opaque[GW_STATE_SIZE / 8];
 } gw_state;
@@ -68,14 +76,14 @@ typedef struct gw_step {
     gw_state state;
 } gw_step;
 
-/* What find gives: zeros where it is refused. */
+/* What find gives: zeros where it is refused. The length is in bytes, the digest SHA-256. */
 typedef struct gw_image {
     uint8_t answer;
     uint64_t length;
     uint8_t digest[GW_ID_SIZE];
 } gw_image;
 
-/* A held root's public key: zeros where it is refused. */
+/* A held root's public key, Ed25519: zeros where it is refused. */
 typedef struct gw_public_key {
     uint8_t answer;
     uint8_t bytes[GW_ID_SIZE];
@@ -102,7 +110,7 @@ typedef struct gw_version {
     uint64_t number;
 } gw_version;
 
-/* The held versions, and the start time in force. */
+/* The held versions, and the start time in force, in seconds from 1970-01-01T00:00:00Z. */
 typedef struct gw_versions {
     gw_version root;
     gw_version timestamp;
@@ -111,7 +119,27 @@ typedef struct gw_versions {
     int64_t start;
 } gw_versions;
 
-/* ---- The functions of the archive, by value. Pointers must not be null, not even with length 0. */
+/* The archive was made for these. Where one differs, this header was read for another kind of machine than x86-64 Linux. */
+#if defined(__cplusplus) || (defined(__STDC_VERSION__) && __STDC_VERSION__ >= 202311L)
+#define GW_SIZE_IS_(type, size) static_assert(sizeof(type) == (size), "libgronwythal.a has another size of " #type)
+#elif defined(__STDC_VERSION__) && __STDC_VERSION__ >= 201112L
+#define GW_SIZE_IS_(type, size) _Static_assert(sizeof(type) == (size), "libgronwythal.a has another size of " #type)
+#else
+#define GW_SIZE_IS_(type, size) struct gw_unchecked_ /* C99 cannot tell */
+#endif
+GW_SIZE_IS_(size_t, 8);
+GW_SIZE_IS_(bool, 1);
+GW_SIZE_IS_(gw_state, GW_STATE_SIZE);
+GW_SIZE_IS_(gw_step, GW_STATE_SIZE + 8);
+GW_SIZE_IS_(gw_image, 48);
+GW_SIZE_IS_(gw_public_key, 33);
+GW_SIZE_IS_(gw_look, 32);
+GW_SIZE_IS_(gw_entry, 97);
+GW_SIZE_IS_(gw_version, 16);
+GW_SIZE_IS_(gw_versions, 72);
+#undef GW_SIZE_IS_
+
+/* ---- The functions of the archive, by value. Pointers must not be null, not even with length 0: the calls below see to that. */
 
 gw_state gronwythal_blank(void);
 gw_step gronwythal_install(const uint8_t *file, size_t file_len, const uint8_t *row, size_t row_len, int64_t start);
@@ -135,7 +163,7 @@ bool gronwythal_is_canonical(const uint8_t *text, size_t text_len);
 
 /* ---- The calls, in the order of an update */
 
-/* A pointer that may be lent: no bytes at no address stand for no bytes. */
+/* A pointer that may be lent: in place of null, one to nothing of use. */
 static inline const uint8_t *gw_lent_(const void *bytes)
 {
     return bytes ? (const uint8_t *)bytes : (const uint8_t *)"";
@@ -153,7 +181,10 @@ static inline void gw_blank(gw_state *state)
     *state = gronwythal_blank();
 }
 
-/* The root from the factory, judged by its own root role; begins a new history. A refusal (1 to 5, 10) leaves the blank state. */
+/*
+ * The root from the factory, judged by its own root role (1 to 5, 10): one row, of verdicts under the keys that the file itself lists. It
+ * begins a new history: what `state` held is gone, and after a refusal it is the blank state. Expiry does not matter here.
+ */
 static inline gw_answer gw_install(gw_state *state, const uint8_t *file, size_t file_len, const uint8_t *row, size_t row_len,
                                    int64_t start)
 {
@@ -161,14 +192,18 @@ static inline gw_answer gw_install(gw_state *state, const uint8_t *file, size_t 
     return gw_stored_(state, &step);
 }
 
-/* A new update cycle at that time, in seconds from 1970-01-01T00:00:00Z. Always accepted. */
+/* A new update cycle at that time, in seconds from 1970-01-01T00:00:00Z, by which expiry is judged from here on. Always accepted. */
 static inline gw_answer gw_new_cycle(gw_state *state, int64_t start)
 {
     gw_step step = gronwythal_new_cycle(*state, start);
     return gw_stored_(state, &step);
 }
 
-/* The next root (1 to 6, 9, 10, 11): the verdicts under the held root's keys, and those under its own. */
+/*
+ * The next root (1 to 6, 9, 10, 11), whose version is the held one plus one: the verdicts under the held root's keys, and those under the
+ * keys that the file itself lists. Offer each root in turn until there is none. One that changes the set of keys of timestamp or snapshot
+ * drops those records and targets; one that changes that of targets alone drops targets.
+ */
 static inline gw_answer gw_root(gw_state *state, const uint8_t *file, size_t file_len, const uint8_t *held_row,
                                 size_t held_row_len, const uint8_t *own_row, size_t own_row_len)
 {
@@ -177,14 +212,14 @@ static inline gw_answer gw_root(gw_state *state, const uint8_t *file, size_t fil
     return gw_stored_(state, &step);
 }
 
-/* A timestamp (1 to 7, 9, 11 to 14). */
+/* A timestamp (1 to 7, 9, 11 to 14). GW_NO_NEWS is the normal answer to the one that is held. */
 static inline gw_answer gw_timestamp(gw_state *state, const uint8_t *file, size_t file_len, const uint8_t *row, size_t row_len)
 {
     gw_step step = gronwythal_timestamp(*state, gw_lent_(file), file_len, gw_lent_(row), row_len);
     return gw_stored_(state, &step);
 }
 
-/* A snapshot, with its digest (1 to 9, 11, 13, 14). */
+/* A snapshot, with its digest of 32 bytes (1 to 9, 11, 13, 14): the one that the held timestamp lists. */
 static inline gw_answer gw_snapshot(gw_state *state, const uint8_t *file, size_t file_len, const uint8_t *row, size_t row_len,
                                     const uint8_t *digest, size_t digest_len)
 {
@@ -192,7 +227,7 @@ static inline gw_answer gw_snapshot(gw_state *state, const uint8_t *file, size_t
     return gw_stored_(state, &step);
 }
 
-/* A targets file, with its digest (1 to 9, 11, 14). */
+/* A targets file, with its digest of 32 bytes (1 to 9, 11, 14): the one that the held snapshot lists. Keep it: gw_find asks for it. */
 static inline gw_answer gw_targets(gw_state *state, const uint8_t *file, size_t file_len, const uint8_t *row, size_t row_len,
                                    const uint8_t *digest, size_t digest_len)
 {
@@ -200,7 +235,10 @@ static inline gw_answer gw_targets(gw_state *state, const uint8_t *file, size_t 
     return gw_stored_(state, &step);
 }
 
-/* The length and digest of an image, from the trusted targets file and its digest (1 to 8, 15). */
+/*
+ * The length and digest of an image (1 to 8, 15). The file is the targets file that was accepted, and its digest is the caller's anew: by
+ * it the file is known again. The path is the name in that file, with its escapes undone, and no null byte behind it.
+ */
 static inline gw_answer gw_find(const gw_state *state, const uint8_t *file, size_t file_len, const uint8_t *digest,
                                 size_t digest_len, const uint8_t *path, size_t path_len, gw_image *image)
 {
@@ -208,7 +246,7 @@ static inline gw_answer gw_find(const gw_state *state, const uint8_t *file, size
     return (gw_answer)image->answer;
 }
 
-/* A fetched image against what find gave (5, 8): lengths, and 32 bytes of digest each. */
+/* A fetched image against what find gave (5, 8): lengths, and 32 bytes of digest each; first what was found, then what was fetched. */
 static inline gw_answer gw_check_image(uint64_t listed, const uint8_t *digest, size_t digest_len, uint64_t fetched,
                                        const uint8_t *hash, size_t hash_len)
 {
@@ -217,7 +255,10 @@ static inline gw_answer gw_check_image(uint64_t listed, const uint8_t *digest, s
 
 /* ---- What signature checking needs */
 
-/* The signed part, in the caller's own bytes, and the number of entries (1 to 3). Refused: no bytes, no entries. */
+/*
+ * The signed part, which signatures are over, and the number of entries (1 to 3). It is a part of the caller's own bytes, not a copy, and
+ * lasts as long as they do. Refused: no bytes, no entries.
+ */
 static inline gw_answer gw_signed_part(const uint8_t *file, size_t file_len, const uint8_t **part, size_t *part_len,
                                        size_t *entries)
 {
@@ -235,15 +276,16 @@ static inline gw_answer gw_entry_at(const uint8_t *file, size_t file_len, size_t
     return (gw_answer)entry->answer;
 }
 
-/* The held root's public key of a keyid in hex (6, 15). */
+/* The held root's public key of a keyid (6, 15), given as files write it: 64 lower-case hex digits, not the 32 bytes of gw_entry. */
 static inline gw_answer gw_key(const gw_state *state, const uint8_t *keyid, size_t keyid_len, gw_public_key *key)
 {
     *key = gronwythal_key(*state, gw_lent_(keyid), keyid_len);
     return (gw_answer)key->answer;
 }
 
-/* ---- What is held */
+/* ---- What is held, and text alone */
 
+/* The held versions, and the start time in force. */
 static inline gw_versions gw_held(const gw_state *state)
 {
     return gronwythal_versions(*state);

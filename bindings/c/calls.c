@@ -1,0 +1,282 @@
+/*
+ * Every call of include/gronwythal.h, from C (C99 and later) and C++ (C++11 and later). The answers were derived by hand from document 01
+ * and are those of the stories in examples/shelf, whose folder is the argument. The last line is 'N passed, M failed'.
+ */
+#include <stdio.h>
+#include <stdlib.h>
+#include <string.h>
+
+#include "gronwythal.h"
+
+static int passed, failed;
+
+static void expect(int line, const char *what, long long stated, long long given)
+{
+    if (stated == given) {
+        passed++;
+        return;
+    }
+    failed++;
+    printf("calls.c:%d: %s: stated %lld, given %lld\n", line, what, stated, given);
+}
+
+#define EXPECT(stated, call) expect(__LINE__, #call, (long long)(stated), (long long)(call))
+
+/* ---- Files, digests and clocks of the shelf */
+
+typedef struct file {
+    uint8_t at[4096];
+    size_t len;
+} file;
+
+static const char *shelf;
+
+static file taken(const char *name)
+{
+    char path[4096];
+    file f;
+    FILE *stream;
+    memset(&f, 0, sizeof f);
+    snprintf(path, sizeof path, "%s/%s", shelf, name);
+    stream = fopen(path, "rb");
+    if (!stream) {
+        printf("cannot open %s\n0 passed, 1 failed\n", path);
+        exit(1);
+    }
+    f.len = fread(f.at, 1, sizeof f.at, stream);
+    fclose(stream);
+    return f;
+}
+
+typedef struct digest {
+    uint8_t at[GW_ID_SIZE];
+} digest;
+
+static digest undone(const char *hex)
+{
+    digest d;
+    size_t i;
+    for (i = 0; i < GW_ID_SIZE; i++) {
+        unsigned byte = 0;
+        sscanf(hex + 2 * i, "%2x", &byte);
+        d.at[i] = (uint8_t)byte;
+    }
+    return d;
+}
+
+static const char *const SNAPSHOT_7 = "566476c65a7dadb8c8e6ab05df97bfaf28784862ba2fca19d95d25a5a23bd079";
+static const char *const TARGETS_3 = "341ed2b004a4f5586b2b2ddfe693b578d45f696c7988c4ab092d3c7bf31a5f79";
+static const char *const FIRMWARE = "662a281800ccab23d61a0d5a7d3ad0b9cb1d9689a71e8db92d1e39c2dfe2fd66";
+static const char *const OLD_FIRMWARE = "73cbe3a9d013872aa25f7183ca10872ff2a72321f5267a5133cbcc367fc3a71e";
+static const char *const ROOT_A = "c2220a4f3b368395bb6445ec9b9ee76db0ab7eec6dfed477046a4aeb3b415370";
+static const char *const ROOT_A_PUBLIC = "ce5414f9b01382ca0daa4f0789934e31aef250d3d813e1c3ebeed39efa593142";
+static const char *const OLD_TIMESTAMP_KEY = "339e94e13ab493088fab6d948104bd8b10ccbbdfa50e4aa2c3962f88a5382cb5";
+static const int64_t MORNING = 1772431200; /* 2026-03-02T06:00:00Z */
+
+static const uint8_t GOOD[GW_MAX_ENTRIES] = {1, 1};
+
+static const uint8_t *text(const char *s)
+{
+    return (const uint8_t *)s;
+}
+
+/* ---- What is held, as four versions in one number: 0 for one that is not held */
+
+static long long held(const gw_state *state)
+{
+    gw_versions v = gw_held(state);
+    const gw_version each[4] = {v.root, v.timestamp, v.snapshot, v.targets};
+    long long all = 0;
+    int i;
+    for (i = 0; i < 4; i++) {
+        EXPECT(each[i].held, each[i].number != 0);
+        all = all * 1000 + (long long)each[i].number;
+    }
+    return all;
+}
+
+static bool zeros(const uint8_t *bytes, size_t len)
+{
+    size_t i;
+    for (i = 0; i < len; i++) {
+        if (bytes[i]) {
+            return false;
+        }
+    }
+    return true;
+}
+
+/* ---- Null pointers and no bytes, on a blank state: 2 for a file, 6 for a key, 5 for an image */
+
+static void nothing_at_all(void)
+{
+    gw_state state;
+    gw_image image;
+    gw_public_key key;
+    gw_entry entry;
+    const uint8_t *part;
+    size_t part_len, entries;
+
+    gw_blank(&state);
+    EXPECT(0, held(&state));
+    EXPECT(1, gw_held(&state).start == INT64_MIN);
+    EXPECT(GW_NOT_TEXT, gw_root(&state, NULL, 0, NULL, 0, NULL, 0));
+    EXPECT(GW_NOT_TEXT, gw_timestamp(&state, NULL, 0, NULL, 0));
+    EXPECT(GW_NOT_TEXT, gw_snapshot(&state, NULL, 0, NULL, 0, NULL, 0));
+    EXPECT(GW_NOT_TEXT, gw_targets(&state, NULL, 0, NULL, 0, NULL, 0));
+    memset(&image, 0xa5, sizeof image);
+    EXPECT(GW_NOT_TEXT, gw_find(&state, NULL, 0, NULL, 0, NULL, 0, &image));
+    EXPECT(0, image.length);
+    EXPECT(1, zeros(image.digest, sizeof image.digest));
+    memset(&key, 0xa5, sizeof key);
+    EXPECT(GW_NOT_HELD, gw_key(&state, NULL, 0, &key));
+    EXPECT(1, zeros(key.bytes, sizeof key.bytes));
+    EXPECT(GW_BAD_ARGUMENT, gw_check_image(0, NULL, 0, 0, NULL, 0));
+    EXPECT(GW_NOT_TEXT, gw_signed_part(NULL, 0, &part, &part_len, &entries));
+    EXPECT(0, part_len);
+    EXPECT(0, entries);
+    memset(&entry, 0xa5, sizeof entry);
+    EXPECT(GW_NOT_TEXT, gw_entry_at(NULL, 0, 0, &entry));
+    EXPECT(1, zeros(entry.keyid, sizeof entry.keyid) && zeros(entry.sig, sizeof entry.sig));
+    EXPECT(0, gw_is_canonical(NULL, 0));
+    EXPECT(GW_ACCEPTED, gw_new_cycle(&state, -5));
+    EXPECT(0, held(&state));
+    EXPECT(-5, gw_held(&state).start);
+    EXPECT(GW_NOT_TEXT, gw_install(&state, NULL, 0, NULL, 0, 7));
+    EXPECT(1, gw_held(&state).start == INT64_MIN);
+}
+
+/* ---- Looking into a file, with document 01's own example */
+
+static void looking_in(void)
+{
+    static const char SMALL[] = "{\"signatures\":[],\"signed\":{}}";
+    file root = taken("root-1.json");
+    const uint8_t *part;
+    size_t part_len, entries;
+    gw_entry entry;
+
+    EXPECT(GW_ACCEPTED, gw_signed_part(text(SMALL), sizeof SMALL - 1, &part, &part_len, &entries));
+    EXPECT(26, part - text(SMALL));
+    EXPECT(2, part_len);
+    EXPECT(0, entries);
+    EXPECT(GW_NOT_LISTED, gw_entry_at(text(SMALL), sizeof SMALL - 1, 0, &entry));
+    EXPECT(GW_BAD_FORM, gw_signed_part(text("{}"), 2, &part, &part_len, &entries));
+
+    EXPECT(GW_ACCEPTED, gw_signed_part(root.at, root.len, &part, &part_len, &entries));
+    EXPECT(2, entries);
+    EXPECT(0, memcmp(part, "{\"_type\":\"root\",", 16));
+    EXPECT(1, part + part_len + 1 == root.at + root.len);
+    EXPECT(GW_ACCEPTED, gw_entry_at(root.at, root.len, 0, &entry));
+    EXPECT(0, memcmp(entry.keyid, undone(ROOT_A).at, GW_ID_SIZE));
+    EXPECT(0x3a, entry.sig[0]);
+    EXPECT(0x03, entry.sig[GW_SIGNATURE_SIZE - 1]);
+    EXPECT(GW_ACCEPTED, gw_entry_at(root.at, root.len, 1, &entry));
+    EXPECT(GW_NOT_LISTED, gw_entry_at(root.at, root.len, 2, &entry));
+    EXPECT(GW_NOT_LISTED, gw_entry_at(root.at, root.len, SIZE_MAX, &entry));
+
+    EXPECT(1, gw_is_canonical(text("{\"a\":1,\"a!\":2}"), 14));
+    EXPECT(0, gw_is_canonical(text("{\"a\":1,\"a\":2}"), 13));
+}
+
+/* ---- The update of story 1. Between its calls, one argument at a time is wrong: each length must arrive in its own place. */
+
+static void an_update(void)
+{
+    const file root_1 = taken("root-1.json"), root_2 = taken("root-2.json"), timestamp = taken("timestamp-41.json");
+    const file snapshot = taken("snapshot-7.json"), targets = taken("targets-3.json");
+    const digest listed_snapshot = undone(SNAPSHOT_7), listed_targets = undone(TARGETS_3);
+    const digest image_digest = undone(FIRMWARE), old_digest = undone(OLD_FIRMWARE);
+    const char *path = "gate-firmware.img";
+    gw_state state;
+    gw_image image;
+    gw_public_key key;
+
+    EXPECT(GW_FEW_OWN_KEYS, gw_install(&state, root_1.at, root_1.len, text("\1\0"), 2, MORNING));
+    EXPECT(0, held(&state));
+    EXPECT(GW_BAD_ARGUMENT, gw_install(&state, root_1.at, root_1.len, GOOD, 1, MORNING));
+    EXPECT(GW_ACCEPTED, gw_install(&state, root_1.at, root_1.len, GOOD, 2, MORNING - 1));
+    EXPECT(1000000000, held(&state));
+    EXPECT(MORNING - 1, gw_held(&state).start);
+    EXPECT(GW_ACCEPTED, gw_new_cycle(&state, MORNING));
+    EXPECT(MORNING, gw_held(&state).start);
+
+    EXPECT(GW_ACCEPTED, gw_key(&state, text(ROOT_A), GW_KEYID_HEX, &key));
+    EXPECT(0, memcmp(key.bytes, undone(ROOT_A_PUBLIC).at, GW_ID_SIZE));
+    EXPECT(GW_NOT_LISTED, gw_key(&state, text(ROOT_A), GW_KEYID_HEX - 1, &key));
+
+    EXPECT(GW_BAD_ARGUMENT, gw_root(&state, root_2.at, root_2.len, GOOD, 3, GOOD, 2));
+    EXPECT(GW_BAD_ARGUMENT, gw_root(&state, root_2.at, root_2.len, GOOD, 2, GOOD, 3));
+    EXPECT(GW_FEW_HELD_KEYS, gw_root(&state, root_2.at, root_2.len, text("\0\1"), 2, GOOD, 2));
+    EXPECT(GW_FEW_OWN_KEYS, gw_root(&state, root_2.at, root_2.len, GOOD, 2, text("\0\1"), 2));
+    EXPECT(GW_WRONG_VERSION, gw_root(&state, root_1.at, root_1.len, GOOD, 2, GOOD, 2));
+    EXPECT(1000000000, held(&state));
+    EXPECT(GW_ACCEPTED, gw_root(&state, root_2.at, root_2.len, GOOD, 2, GOOD, 2));
+    EXPECT(2000000000, held(&state));
+    EXPECT(GW_NOT_LISTED, gw_key(&state, text(OLD_TIMESTAMP_KEY), GW_KEYID_HEX, &key));
+
+    EXPECT(GW_BAD_ARGUMENT, gw_timestamp(&state, timestamp.at, timestamp.len, GOOD, 2));
+    EXPECT(GW_NOT_TEXT, gw_timestamp(&state, timestamp.at, timestamp.len - 1, GOOD, 1));
+    EXPECT(GW_ACCEPTED, gw_timestamp(&state, timestamp.at, timestamp.len, GOOD, 1));
+    EXPECT(2041000000, held(&state));
+    EXPECT(GW_NO_NEWS, gw_timestamp(&state, timestamp.at, timestamp.len, GOOD, 1));
+
+    EXPECT(GW_BAD_ARGUMENT, gw_snapshot(&state, snapshot.at, snapshot.len, GOOD, 2, listed_snapshot.at, GW_ID_SIZE));
+    EXPECT(GW_BAD_ARGUMENT, gw_snapshot(&state, snapshot.at, snapshot.len, GOOD, 1, listed_snapshot.at, GW_ID_SIZE - 1));
+    EXPECT(GW_OTHER_CONTENT, gw_snapshot(&state, snapshot.at, snapshot.len, GOOD, 1, listed_targets.at, GW_ID_SIZE));
+    EXPECT(GW_ACCEPTED, gw_snapshot(&state, snapshot.at, snapshot.len, GOOD, 1, listed_snapshot.at, GW_ID_SIZE));
+    EXPECT(2041007000, held(&state));
+
+    EXPECT(GW_BAD_ARGUMENT, gw_targets(&state, targets.at, targets.len, GOOD, 0, listed_targets.at, GW_ID_SIZE));
+    EXPECT(GW_BAD_ARGUMENT, gw_targets(&state, targets.at, targets.len, GOOD, 1, listed_targets.at, 0));
+    EXPECT(GW_ACCEPTED, gw_targets(&state, targets.at, targets.len, GOOD, 1, listed_targets.at, GW_ID_SIZE));
+    EXPECT(2041007003, held(&state));
+
+    EXPECT(GW_BAD_ARGUMENT, gw_find(&state, targets.at, targets.len, listed_targets.at, 31, text(path), 17, &image));
+    EXPECT(GW_OTHER_CONTENT, gw_find(&state, targets.at, targets.len, listed_snapshot.at, 32, text(path), 17, &image));
+    EXPECT(GW_NOT_LISTED, gw_find(&state, targets.at, targets.len, listed_targets.at, 32, text(path), 16, &image));
+    EXPECT(0, image.length);
+    EXPECT(GW_ACCEPTED, gw_find(&state, targets.at, targets.len, listed_targets.at, 32, text(path), 17, &image));
+    EXPECT(91, image.length);
+    EXPECT(0, memcmp(image.digest, image_digest.at, GW_ID_SIZE));
+
+    EXPECT(GW_ACCEPTED, gw_check_image(image.length, image.digest, GW_ID_SIZE, 91, image_digest.at, GW_ID_SIZE));
+    EXPECT(GW_OTHER_CONTENT, gw_check_image(image.length, image.digest, GW_ID_SIZE, 92, image_digest.at, GW_ID_SIZE));
+    EXPECT(GW_OTHER_CONTENT, gw_check_image(image.length, image.digest, GW_ID_SIZE, 91, old_digest.at, GW_ID_SIZE));
+    EXPECT(GW_BAD_ARGUMENT, gw_check_image(image.length, image.digest, 31, 91, image_digest.at, GW_ID_SIZE));
+    EXPECT(GW_BAD_ARGUMENT, gw_check_image(image.length, image.digest, GW_ID_SIZE, 91, image_digest.at, 33));
+
+    EXPECT(2041007003, held(&state));
+    EXPECT(MORNING, gw_held(&state).start);
+}
+
+/* ---- A file of 32,769 bytes is too long; one of 32,768 is looked at. Neither is written. */
+
+static void at_the_limit(void)
+{
+    static uint8_t blanks[GW_MAX_FILE + 1];
+    const uint8_t *part;
+    size_t part_len, entries, i;
+
+    memset(blanks, ' ', sizeof blanks);
+    EXPECT(GW_TOO_LONG, gw_signed_part(blanks, GW_MAX_FILE + 1, &part, &part_len, &entries));
+    EXPECT(GW_NOT_TEXT, gw_signed_part(blanks, GW_MAX_FILE, &part, &part_len, &entries));
+    for (i = 0; i < sizeof blanks && blanks[i] == ' '; i++) {
+    }
+    EXPECT(sizeof blanks, i);
+}
+
+int main(int argc, char **argv)
+{
+    if (argc != 2) {
+        printf("usage: calls SHELF\n0 passed, 1 failed\n");
+        return 1;
+    }
+    shelf = argv[1];
+    nothing_at_all();
+    looking_in();
+    an_update();
+    at_the_limit();
+    printf("%d passed, %d failed\n", passed, failed);
+    return failed != 0;
+}

@@ -1,0 +1,15 @@
+-- `layout_step` meets its contract.
+use mathlib.Core.Path.{refl}
+use borrow.Author.Needs.{needs}
+use Rattle.layout.proofs.Mark.{at}
+use Rattle.layout.proofs.layout_step.Statement.{statement}
+use Rattle.layout.proofs.layout_step.Tie as tie
+
+state-at-requires : tie.Need-state-at-requires
+state-at-requires c κs = search needs
+
+returns : tie.Need-returns
+returns c = (search needs, at _ _ _ (c .state-at .ensures) (search needs), refl)
+
+pub layout-step-spec : {M : Type 1} → statement M
+layout-step-spec = tie.close (tie.spec state-at-requires returns)
