@@ -1,9 +1,9 @@
 //! The groups of inputs, one module for each family of calls, and what makes their inputs.
 
-mod damage;
+pub mod damage;
 mod dates;
 mod forms;
-mod histories;
+pub mod histories;
 mod images;
 mod keys;
 mod limits;
