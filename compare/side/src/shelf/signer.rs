@@ -33,6 +33,9 @@ trait Scheme: Send {
     fn verifies(&mut self, public: &Public, message: &[u8], signature: &Signature) -> Result<bool, String>;
 }
 
+/// Starts a scheme, if the machine has it.
+type Start = fn() -> Result<Box<dyn Scheme>, String>;
+
 /// A scheme, and what it has said already: to ask it again would be another process.
 pub struct Signer {
     scheme: Box<dyn Scheme>,
@@ -47,7 +50,7 @@ impl Signer {
 
     /// All that are at hand, the best first.
     pub fn all() -> impl Iterator<Item = Signer> {
-        let starts: [fn() -> Result<Box<dyn Scheme>, String>; 3] = [
+        let starts: [Start; 3] = [
             || Ok(Box::new(OpenSsl::start()?)),
             || Ok(Box::new(Python::start()?)),
             || Ok(Box::new(Marks)),
