@@ -23,6 +23,8 @@ pub struct Case {
     stated: Option<String>,
     /// Paper's answer, if it was asked already when the input was made.
     paper: Option<String>,
+    /// What the report says of the inputs.
+    remark: Option<&'static str>,
 }
 
 impl Case {
@@ -32,6 +34,7 @@ impl Case {
             line: line.into(),
             stated: None,
             paper: None,
+            remark: None,
         }
     }
 
@@ -50,6 +53,19 @@ impl Case {
         Case {
             paper: Some(paper),
             ..self
+        }
+    }
+
+    /// Has the report say how the inputs were made.
+    pub fn remark(&mut self, remark: &'static str) {
+        self.remark = Some(remark);
+    }
+
+    /// The call, if it is one that is written in the plainest way.
+    pub fn call(&self) -> Option<&Call> {
+        match &self.line {
+            Line::Call(call) => Some(call),
+            Line::Raw(_) => None,
         }
     }
 
@@ -92,6 +108,8 @@ pub struct Group {
 pub struct Report {
     inputs: usize,
     kinds: BTreeMap<String, usize>,
+    /// How the inputs were made, where that is not always the same.
+    remarks: Vec<&'static str>,
     /// The input with which the present history began.
     begun: Option<usize>,
     failures: usize,
@@ -117,6 +135,7 @@ impl Report {
 
     fn count(&mut self, question: &Question) {
         self.inputs += 1;
+        self.remarks.extend(question.case.remark);
         if let Line::Call(Call::Install { .. }) = question.case.line {
             self.begun = Some(self.inputs);
         }
@@ -169,6 +188,9 @@ impl Report {
 
 impl fmt::Display for Report {
     fn fmt(&self, out: &mut fmt::Formatter<'_>) -> fmt::Result {
+        for remark in &self.remarks {
+            write!(out, "{remark}: ")?;
+        }
         write!(out, "{} inputs (", self.inputs)?;
         for (place, (kind, count)) in self.kinds.iter().enumerate() {
             let comma = if place > 0 { ", " } else { "" };

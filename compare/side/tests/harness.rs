@@ -1,5 +1,8 @@
 //! Tests of the comparison itself: it passes a program that answers well, and catches every one that does not.
 
+use std::fs;
+use std::os::unix::fs::PermissionsExt;
+use std::path::Path;
 use std::process::{Command, Output};
 use std::time::{Duration, Instant};
 
@@ -402,6 +405,87 @@ fn mistakes_are_noticed_by_published_examples() {
             "entry-from-1",
         ],
     );
+}
+
+/// Runs the signed shelf where other programs are looked for in one folder alone.
+fn signed_shelf(folder: &Path, manner: &str) -> Run {
+    let output = Command::new(env!("CARGO_BIN_EXE_side"))
+        .args(["--replay", env!("CARGO_BIN_EXE_stand-in"), "--only", "signed shelf"])
+        .env("STAND_IN", manner)
+        .env("PATH", folder)
+        .output()
+        .expect("the comparison starts");
+    Run::new(output)
+}
+
+/// Where the python3 is that has the package.
+fn python_with_cryptography() -> Option<String> {
+    let script = "import cryptography.hazmat.primitives.asymmetric.ed25519, sys; print(sys.executable)";
+    let output = Command::new("python3").args(["-c", script]).output().ok()?;
+    let place = String::from_utf8(output.stdout).ok()?;
+    output.status.success().then(|| place.trim().to_string())
+}
+
+#[test]
+fn the_signed_shelf_says_who_signed() {
+    let signer = side::shelf::signer::Signer::at_hand().name();
+    let run = side("", &["--only", "signed shelf"]);
+    run.must_pass("1 passed, 0 failed");
+    assert!(run.text.contains(&format!(" s: {signer}: ")), "{}", run.text);
+}
+
+#[test]
+fn the_signed_shelf_needs_no_signer() {
+    let folder = Path::new(env!("CARGO_TARGET_TMPDIR")).join("no-programs");
+    fs::create_dir_all(&folder).unwrap();
+    let run = signed_shelf(&folder, "");
+    run.must_pass("1 passed, 0 failed");
+    assert!(run.text.contains("verdicts given"), "{}", run.text);
+}
+
+#[test]
+fn without_openssl_the_signed_shelf_asks_python() {
+    let folder = Path::new(env!("CARGO_TARGET_TMPDIR")).join("only-python");
+    let _ = fs::remove_dir_all(&folder);
+    fs::create_dir_all(&folder).unwrap();
+    let mut expected = "verdicts given";
+    if let Some(python) = python_with_cryptography() {
+        expected = "Ed25519 by python3's cryptography";
+        let program = folder.join("python3");
+        fs::write(&program, format!("#!/bin/sh\nexec '{python}' \"$@\"\n")).unwrap();
+        fs::set_permissions(&program, fs::Permissions::from_mode(0o755)).unwrap();
+    }
+    let run = signed_shelf(&folder, "");
+    run.must_pass("1 passed, 0 failed");
+    assert!(run.text.contains(expected), "{}", run.text);
+}
+
+#[test]
+fn mistakes_are_noticed_by_the_signed_shelf() {
+    // The verdicts are the same whoever signs.
+    let folder = Path::new(env!("CARGO_TARGET_TMPDIR")).join("no-programs");
+    for mistake in [
+        "old-values-kept",
+        "old-role-keys-count",
+        "old-keys-kept",
+        "first-roles-believed",
+        "one-row",
+        "own-row-only",
+        "rows-swapped",
+        "signatures-counted",
+        "threshold-ignored",
+        "any-root-key-signs",
+        "9-before-8",
+        "rotation-missed",
+        "look-from-1",
+        "entry-from-1",
+        "key-gives-keyid",
+        "find-with-escapes",
+    ] {
+        let run = signed_shelf(&folder, mistake);
+        assert!(!run.passed, "{mistake} was not noticed");
+        run.must_fail("0 passed, 1 failed", &["script: ", "stated: "]);
+    }
 }
 
 #[test]

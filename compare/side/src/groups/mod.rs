@@ -1,9 +1,9 @@
 //! The groups of inputs, one module for each family of calls, and what makes their inputs.
 
-mod damage;
+pub mod damage;
 mod dates;
 mod forms;
-mod histories;
+pub mod histories;
 mod images;
 mod keys;
 mod limits;
@@ -13,6 +13,7 @@ mod mutants;
 mod named;
 pub(crate) mod names;
 mod published;
+mod signed;
 mod text;
 mod texts;
 
@@ -22,7 +23,19 @@ use crate::compare::{Case, Cases, Group};
 /// The calls of replay that are compared: all that it has. A group is run only if all of its calls are in this list, so
 /// that the group of a call which replay has still to get can stand ready; such a group is named in the report.
 pub const COMPARED: &[&str] = &[
-    "text", "date", "look", "entry", "key", "install", "cycle", "root", "timestamp", "snapshot", "targets", "find", "image",
+    "text",
+    "date",
+    "look",
+    "entry",
+    "key",
+    "install",
+    "cycle",
+    "root",
+    "timestamp",
+    "snapshot",
+    "targets",
+    "find",
+    "image",
     "state",
 ];
 
@@ -39,6 +52,7 @@ pub fn all() -> Vec<Group> {
         limits::groups(),
         named::groups(),
         published::groups(),
+        signed::groups(),
         histories::groups(),
     ]
     .into_iter()

@@ -3,4 +3,5 @@
 pub mod dates;
 pub mod files;
 pub mod sha256;
+pub mod signer;
 pub mod tree;

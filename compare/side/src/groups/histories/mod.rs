@@ -72,6 +72,12 @@ fn histories(seed: u64) -> Cases {
     Box::new((0..HISTORIES).flat_map(move |number| History::new(seed, number).played()))
 }
 
+/// The calls of one history. Its number tells it from the others of the seed.
+pub fn calls(seed: u64, number: usize) -> Vec<Call> {
+    let cases = History::new(seed, number).played();
+    cases.iter().filter_map(|case| case.call().cloned()).collect()
+}
+
 /// One history while it is made.
 pub struct History {
     random: Random,

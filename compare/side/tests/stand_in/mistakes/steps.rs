@@ -474,6 +474,8 @@ fn meddles_after(mistake: &str) -> bool {
         "value-is-rotation",
         "first-roles-believed",
         "old-keys-kept",
+        "old-values-kept",
+        "old-role-keys-count",
         "first-digest-kept",
         "snapshot-drops-targets",
         "timestamp-drops-snapshot",
@@ -575,6 +577,20 @@ fn meddle_after_root(mistake: &str, state: &mut State, before: &State, (old, new
                 for (keyid, public) in &old.keys {
                     held.keys.entry(keyid.clone()).or_insert(public.clone());
                 }
+            }
+        }
+        "old-values-kept" => {
+            if let Some(held) = &mut state.root {
+                for (keyid, public) in held.keys.iter_mut() {
+                    if let Some(old) = old.keys.get(keyid) {
+                        public.clone_from(old);
+                    }
+                }
+            }
+        }
+        "old-role-keys-count" => {
+            if let Some(held) = &mut state.root {
+                held.timestamp.keyids.extend(old.timestamp.keyids.iter().cloned());
             }
         }
         _ => {}
