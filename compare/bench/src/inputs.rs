@@ -261,3 +261,44 @@ fn array_of(element: impl Fn(usize) -> Tree) -> Call {
     written.extend_from_slice(b"\"]");
     Call::Text(written)
 }
+
+#[cfg(test)]
+mod tests {
+    use super::{Call, LARGE, LONGEST, Release, dense_escapes, multi_byte, plain_strings, small_values};
+    use paper::forms;
+
+    #[test]
+    fn texts_are_canonical_and_as_long_as_a_file_may_be() {
+        for call in [plain_strings(), dense_escapes(), multi_byte(), small_values()] {
+            let Call::Text(text) = call else { panic!("{call:?}") };
+            assert_eq!(text.len(), LONGEST);
+            assert!(paper::json::parse(&text).is_ok());
+        }
+    }
+
+    #[test]
+    fn large_files_are_at_the_limits() {
+        let release = Release::new(1, &LARGE);
+        let root = forms::root(&release.root).unwrap();
+        assert_eq!((root.entries.len(), root.says.keys.len()), (16, 16));
+        assert_eq!(root.says.snapshot.keyids.len(), 16);
+        let snapshot = forms::snapshot(&release.snapshot).unwrap().says;
+        assert_eq!(snapshot.meta.len(), 32);
+        assert_eq!(snapshot.meta.keys().filter(|name| name.len() == 32).count(), 31);
+        assert_eq!(release.targets.len(), LONGEST);
+        assert_eq!(
+            forms::targets(&release.targets).unwrap().says.targets.len(),
+            release.paths.len()
+        );
+    }
+
+    #[test]
+    fn finds_ask_for_different_paths() {
+        let paths = Release::new(1, &LARGE).finds(40).into_iter().map(|call| match call {
+            Call::Find { path, .. } => path,
+            call => panic!("{call:?}"),
+        });
+        let paths: std::collections::BTreeSet<_> = paths.collect();
+        assert_eq!(paths.len(), 40);
+    }
+}

@@ -11,62 +11,47 @@ mod work;
 
 use std::process::ExitCode;
 
-use options::{Options, Side};
-use report::{Growth, Report};
+use measure::{Line, PASSES, play_times};
+use options::{Options, Side, USAGE};
+use work::Work;
 
 fn main() -> ExitCode {
     let options = match Options::read(std::env::args().skip(1)) {
-        Ok(options) => options,
-        Err(message) => {
-            eprintln!("{message}");
+        Some(options) => options,
+        None => {
+            eprintln!("{USAGE}");
             return ExitCode::from(2);
         }
     };
-    let result = match options.play {
-        Some((side, times)) => {
-            play(&options, side, times);
-            Ok(())
-        }
-        None => table(&options),
-    };
-    match result {
-        Ok(()) => ExitCode::SUCCESS,
-        Err(difference) => {
-            eprintln!("bench: the sides differ: {difference}");
-            ExitCode::FAILURE
-        }
+    if options.help {
+        println!("{USAGE}");
+        return ExitCode::SUCCESS;
     }
+    let wanted: Vec<Work> = work::all()
+        .into_iter()
+        .filter(|work| options.picks(&work.name))
+        .collect();
+    match options.play {
+        Some((Side::Rattle, times)) => wanted.iter().for_each(|work| play_times::<rattle::State>(work, times)),
+        Some((Side::Ordinary, times)) => wanted
+            .iter()
+            .for_each(|work| play_times::<ordinary::State>(work, times)),
+        None => match measured(wanted) {
+            Ok(lines) => print!("{}", report::written(&lines, options.markdown)),
+            Err(difference) => {
+                eprintln!("bench: the library and ordinary differ: {difference}");
+                return ExitCode::FAILURE;
+            }
+        },
+    }
+    ExitCode::SUCCESS
 }
 
-/// Measures everything, then prints the tables.
-fn table(options: &Options) -> Result<(), String> {
-    let mut report = Report::new(options.markdown);
-    for work in work::lines() {
-        if options.picks(&work.name) {
-            report.add(&work, measure::measure(&work)?);
-        }
+/// The lines after all passes, or where the sides differ.
+fn measured(wanted: Vec<Work>) -> Result<Vec<Line>, String> {
+    let mut lines: Vec<Line> = wanted.into_iter().map(Line::new).collect::<Result<_, _>>()?;
+    for _ in 0..PASSES {
+        lines.iter_mut().for_each(Line::pass);
     }
-    for (name, work) in work::GROWING {
-        if options.picks(&format!("growth: {name}")) {
-            let mut growth = Growth::new(name);
-            for bytes in work::DOUBLING {
-                growth.add(bytes, measure::measure(&work(bytes))?);
-            }
-            report.add_growth(growth);
-        }
-    }
-    print!("{report}");
-    Ok(())
-}
-
-/// Plays lines on one side alone, for a profiler.
-fn play(options: &Options, side: Side, times: usize) {
-    for work in work::lines() {
-        if options.picks(&work.name) {
-            match side {
-                Side::Rattle => measure::play_times::<rattle::State>(&work, times),
-                Side::Ordinary => measure::play_times::<ordinary::State>(&work, times),
-            }
-        }
-    }
+    Ok(lines)
 }

@@ -1,4 +1,7 @@
-//! Measures a line: both sides by turns, the median of many runs.
+//! Measures lines: both sides by turns, the median of many runs.
+//!
+//! The runs of a line are spread over passes through all lines, so that what else the machine does for a while touches a
+//! few runs of every line and not all runs of one.
 
 use std::hint::black_box;
 use std::time::{Duration, Instant};
@@ -10,18 +13,68 @@ use crate::play::{play, play_all};
 use crate::rattle;
 use crate::work::Work;
 
+/// How often all lines are gone through.
+pub const PASSES: usize = 25;
+
+/// The runs of a line in one pass take about this long, on both sides together.
+const PASS: Duration = Duration::from_millis(20);
+
+/// At least and at most so many runs of each side in one pass.
+const FEWEST_RUNS: usize = 10;
+const MOST_RUNS: usize = 100;
+
 /// A run takes about this long at least: several rounds of the calls, if one is shorter.
 const RUN: Duration = Duration::from_micros(20);
 
 /// At most so many rounds make a run, so that their states stay in the processor's caches.
 const MOST_ROUNDS: usize = 16;
 
-/// All runs of a line take about this long, on both sides together.
-const LINE: Duration = Duration::from_millis(800);
+/// A line, with what was measured of it so far.
+pub struct Line {
+    /// What is measured.
+    pub work: Work,
+    rattle: Side<rattle::State>,
+    ordinary: Side<ordinary::State>,
+    rounds: usize,
+    runs: usize,
+}
 
-/// Of each side at least and at most so many runs.
-const FEWEST_RUNS: usize = 201;
-const MOST_RUNS: usize = 2_001;
+impl Line {
+    /// Compares the answers of both sides, and finds out how many runs a pass has time for. Gives the difference if
+    /// there is one.
+    pub fn new(work: Work) -> Result<Line, String> {
+        check(&work)?;
+        let rattle = Side::new(&work);
+        let ordinary = Side::new(&work);
+        let once = |_| rattle.run(&work.calls, 1) + ordinary.run(&work.calls, 1);
+        let both = (0..10).map(once).min().unwrap_or_default().as_nanos().max(1);
+        let rounds = (2 * RUN.as_nanos() / both + 1).min(MOST_ROUNDS as u128) as usize;
+        let runs = (PASS.as_nanos() / (both * rounds as u128)) as usize;
+        Ok(Line {
+            work,
+            rattle,
+            ordinary,
+            rounds,
+            runs: runs.clamp(FEWEST_RUNS, MOST_RUNS),
+        })
+    }
+
+    /// Measures both sides by turns.
+    pub fn pass(&mut self) {
+        for _ in 0..self.runs {
+            self.rattle.add_run(&self.work.calls, self.rounds);
+            self.ordinary.add_run(&self.work.calls, self.rounds);
+        }
+    }
+
+    /// The medians of all runs.
+    pub fn times(&self) -> Times {
+        Times {
+            rattle: self.rattle.median() / self.rounds as f64,
+            ordinary: self.ordinary.median() / self.rounds as f64,
+        }
+    }
+}
 
 /// What was measured of a line: the time of one round of its calls, in microseconds.
 pub struct Times {
@@ -38,81 +91,68 @@ impl Times {
     }
 }
 
-/// Compares the answers of both sides, then measures them. Gives the difference if there is one.
-pub fn measure(work: &Work) -> Result<Times, String> {
-    check(work)?;
-    let (rattle, _) = play_all::<rattle::State>(&work.before);
-    let (ordinary, _) = play_all::<ordinary::State>(&work.before);
-    let calls = &work.calls;
-
-    let once = first_runs(|| run(&rattle, calls, 1), || run(&ordinary, calls, 1));
-    let rounds = (RUN.as_nanos() / once.as_nanos().max(1) + 1).min(MOST_ROUNDS as u128) as usize;
-    let runs = (LINE.as_nanos() / (2 * once.as_nanos().max(1) * rounds as u128)) as usize;
-    let runs = runs.clamp(FEWEST_RUNS, MOST_RUNS);
-
-    let (mut rattle_times, mut ordinary_times) = (Vec::new(), Vec::new());
-    for _ in 0..runs {
-        rattle_times.push(run(&rattle, calls, rounds));
-        ordinary_times.push(run(&ordinary, calls, rounds));
+/// Plays the calls so many times on one side alone.
+pub fn play_times<C: Client>(work: &Work, times: usize) {
+    let side = Side::<C>::new(work);
+    for _ in 0..times {
+        side.run(&work.calls, 1);
     }
-    Ok(Times {
-        rattle: median(rattle_times) / rounds as f64,
-        ordinary: median(ordinary_times) / rounds as f64,
-    })
+}
+
+/// One side of a line.
+struct Side<C> {
+    /// The state before the calls.
+    state: C,
+    times: Vec<Duration>,
+}
+
+impl<C: Client> Side<C> {
+    fn new(work: &Work) -> Side<C> {
+        Side {
+            state: play_all(&work.before).0,
+            times: Vec::new(),
+        }
+    }
+
+    fn add_run(&mut self, calls: &[Call], rounds: usize) {
+        self.times.push(self.run(calls, rounds));
+    }
+
+    /// The time of so many rounds of the calls, each on a copy of the state that was made before the clock started.
+    fn run(&self, calls: &[Call], rounds: usize) -> Duration {
+        let mut states = vec![self.state.clone(); rounds];
+        let begin = Instant::now();
+        for state in &mut states {
+            for call in calls {
+                black_box(play(state, call));
+            }
+        }
+        let time = begin.elapsed();
+        black_box(&states);
+        time
+    }
+
+    /// In microseconds.
+    fn median(&self) -> f64 {
+        let mut times = self.times.clone();
+        times.sort();
+        times[times.len() / 2].as_secs_f64() * 1e6
+    }
 }
 
 /// Both sides have to give the same answers, hold the same versions, and accept everything.
 fn check(work: &Work) -> Result<(), String> {
-    let all: Vec<Call> = work.before.iter().chain(&work.calls).cloned().collect();
-    let (rattle, rattle_answers) = play_all::<rattle::State>(&all);
-    let (ordinary, ordinary_answers) = play_all::<ordinary::State>(&all);
-    let differ = |what: &str, one: &dyn std::fmt::Debug, other: &dyn std::fmt::Debug| {
-        Err(format!(
-            "{}: {what}: the library {one:?}, ordinary {other:?}",
-            work.name
-        ))
-    };
+    let calls: Vec<Call> = work.before.iter().chain(&work.calls).cloned().collect();
+    let (rattle, rattle_answers) = play_all::<rattle::State>(&calls);
+    let (ordinary, ordinary_answers) = play_all::<ordinary::State>(&calls);
     for (place, (one, other)) in rattle_answers.iter().zip(&ordinary_answers).enumerate() {
         if one != other || one.answer != 0 {
-            return differ(&format!("answers to call {place}"), one, other);
+            return Err(format!("{}, call {place}: {one:?} and {other:?}", work.name));
         }
     }
     let (one, other) = (rattle.versions(), Client::versions(&ordinary));
     if one != other {
-        return differ("versions", &one, &other);
+        return Err(format!("{}, at the end: {one:?} and {other:?}", work.name));
     }
     Ok(())
-}
-
-/// Warms both sides up and gives the shorter time of a run.
-fn first_runs(mut one: impl FnMut() -> Duration, mut other: impl FnMut() -> Duration) -> Duration {
-    (0..10).map(|_| one().min(other())).min().unwrap_or_default()
-}
-
-/// The time of so many rounds of the calls, each on a fresh copy of the state.
-fn run<C: Client>(state: &C, calls: &[Call], rounds: usize) -> Duration {
-    let mut states = vec![state.clone(); rounds];
-    let begin = Instant::now();
-    for state in &mut states {
-        for call in calls {
-            black_box(play(state, call));
-        }
-    }
-    let time = begin.elapsed();
-    black_box(&states);
-    time
-}
-
-/// In microseconds.
-fn median(mut times: Vec<Duration>) -> f64 {
-    times.sort();
-    times[times.len() / 2].as_secs_f64() * 1e6
-}
-
-/// Plays the calls so many times, each on a fresh copy of the state.
-pub fn play_times<C: Client>(work: &Work, times: usize) {
-    let (state, _) = play_all::<C>(&work.before);
-    for _ in 0..times {
-        run(&state, &work.calls, 1);
-    }
 }

@@ -1,6 +1,7 @@
 //! The words of the command line.
 
-const USAGE: &str = "\
+/// How the words are to be used.
+pub const USAGE: &str = "\
 bench [--markdown] [--only WORDS]
 bench --play rattle|ordinary TIMES [--only WORDS]
 
@@ -9,7 +10,7 @@ bench --play rattle|ordinary TIMES [--only WORDS]
   --play       plays the lines so many times on one side alone, for a profiler";
 
 /// A side of the comparison.
-#[derive(Clone, Copy)]
+#[derive(Clone, Copy, Debug, PartialEq, Eq)]
 pub enum Side {
     /// The library.
     Rattle,
@@ -18,8 +19,10 @@ pub enum Side {
 }
 
 /// What was asked for.
-#[derive(Default)]
+#[derive(Debug, Default, PartialEq, Eq)]
 pub struct Options {
+    /// How the words are to be used.
+    pub help: bool,
     /// Tables as markdown.
     pub markdown: bool,
     only: Option<String>,
@@ -28,18 +31,19 @@ pub struct Options {
 }
 
 impl Options {
-    /// The options that the words mean, or how they are to be used.
-    pub fn read(mut words: impl Iterator<Item = String>) -> Result<Options, &'static str> {
+    /// The options that the words mean; `None` if they mean nothing.
+    pub fn read(mut words: impl Iterator<Item = String>) -> Option<Options> {
         let mut options = Options::default();
         while let Some(word) = words.next() {
             match word.as_str() {
+                "--help" => options.help = true,
                 "--markdown" => options.markdown = true,
-                "--only" => options.only = Some(words.next().ok_or(USAGE)?),
-                "--play" => options.play = Some((side(words.next())?, times(words.next())?)),
-                _ => return Err(USAGE),
+                "--only" => options.only = Some(words.next()?),
+                "--play" => options.play = Some((side(&words.next()?)?, words.next()?.parse().ok()?)),
+                _ => return None,
             }
         }
-        Ok(options)
+        Some(options)
     }
 
     /// Whether a line of this name is wanted.
@@ -48,14 +52,41 @@ impl Options {
     }
 }
 
-fn side(word: Option<String>) -> Result<Side, &'static str> {
-    match word.as_deref() {
-        Some("rattle") => Ok(Side::Rattle),
-        Some("ordinary") => Ok(Side::Ordinary),
-        _ => Err(USAGE),
+fn side(word: &str) -> Option<Side> {
+    match word {
+        "rattle" => Some(Side::Rattle),
+        "ordinary" => Some(Side::Ordinary),
+        _ => None,
     }
 }
 
-fn times(word: Option<String>) -> Result<usize, &'static str> {
-    word.and_then(|word| word.parse().ok()).ok_or(USAGE)
+#[cfg(test)]
+mod tests {
+    use super::{Options, Side};
+
+    fn read(line: &str) -> Option<Options> {
+        Options::read(line.split_whitespace().map(str::to_string))
+    }
+
+    #[test]
+    fn lines_are_picked_by_words_of_their_name() {
+        let options = read("--only cycle --markdown").unwrap();
+        assert!(options.markdown && options.picks("whole cycle: large files") && !options.picks("find"));
+        assert!(read("").unwrap().picks("find"));
+    }
+
+    #[test]
+    fn one_side_alone() {
+        assert_eq!(read("--play ordinary 7").unwrap().play, Some((Side::Ordinary, 7)));
+        for broken in [
+            "--play",
+            "--play paper 7",
+            "--play rattle",
+            "--play rattle x",
+            "--only",
+            "more",
+        ] {
+            assert_eq!(read(broken), None, "{broken}");
+        }
+    }
 }

@@ -193,3 +193,16 @@ impl Client for State {
         }
     }
 }
+
+#[cfg(test)]
+mod tests {
+    use super::State;
+
+    #[test]
+    fn the_state_is_as_large_as_the_header_says() {
+        let header = include_str!("../../../include/gronwythal.h");
+        let size = header.split("#define GW_STATE_SIZE ").nth(1).unwrap();
+        let size: usize = size.split_whitespace().next().unwrap().parse().unwrap();
+        assert_eq!(size_of::<State>(), size);
+    }
+}

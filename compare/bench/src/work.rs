@@ -1,6 +1,7 @@
-//! The lines of the table: what is played before the clock starts, and what is measured.
+//! The lines of the tables: what is played before the clock starts, and what is measured.
 
 use side::calls::Call;
+use side::shelf::files::LONGEST;
 
 use crate::inputs::{self, LARGE, MIDDLE, Release, Size};
 
@@ -8,16 +9,28 @@ use crate::inputs::{self, LARGE, MIDDLE, Release, Size};
 pub struct Work {
     /// What is measured.
     pub name: String,
+    /// Which table it stands in.
+    pub table: Table,
     /// Gives the state that the calls are played on; not measured.
     pub before: Vec<Call>,
     /// What is measured.
     pub calls: Vec<Call>,
 }
 
+/// The tables.
+#[derive(Clone, Copy, Debug, PartialEq, Eq)]
+pub enum Table {
+    /// Times, in microseconds.
+    Times,
+    /// Times for each byte, as the file doubles.
+    Growth,
+}
+
 impl Work {
-    fn new(name: impl Into<String>, before: Vec<Call>, calls: Vec<Call>) -> Work {
+    fn new(name: &str, before: Vec<Call>, calls: Vec<Call>) -> Work {
         Work {
-            name: name.into(),
+            name: name.to_string(),
+            table: Table::Times,
             before,
             calls,
         }
@@ -41,15 +54,14 @@ fn bytes(call: &Call) -> usize {
     }
 }
 
-/// The lines of the first table.
-pub fn lines() -> Vec<Work> {
-    [texts(), forms(), cycles()].into_iter().flatten().collect()
+/// The lines of all tables.
+pub fn all() -> Vec<Work> {
+    [texts(), forms(), cycles(), growths()].into_iter().flatten().collect()
 }
 
-/// Validating text.
+/// Validating text of 32,768 bytes.
 fn texts() -> Vec<Work> {
-    let held = Release::new(1, &MIDDLE).whole();
-    let text = |name, text| Work::new(name, held.clone(), vec![text]);
+    let text = |name, text| Work::new(name, Release::new(1, &MIDDLE).whole(), vec![text]);
     vec![
         text("validate: plain ASCII strings", inputs::plain_strings()),
         text("validate: dense escapes", inputs::dense_escapes()),
@@ -61,67 +73,64 @@ fn texts() -> Vec<Work> {
 
 /// Reading each form at its largest, through the step that reads it.
 fn forms() -> Vec<Work> {
-    let small = Size {
-        timestamp: None,
-        ..MIDDLE
-    };
     let padded = Size {
-        timestamp: Some(side::shelf::files::LONGEST),
+        timestamp: Some(LONGEST),
         ..LARGE
     };
     vec![
         step("root: 16 keys, 4 roles of 16, 16 entries", &LARGE, 1),
-        step("timestamp: plain, 2 entries", &small, 2),
-        step("timestamp: 16 entries, padded to 32,768", &padded, 2),
+        step("timestamp: plain, 2 entries", &MIDDLE, 2),
+        step("timestamp: 16 entries, padded", &padded, 2),
         step("snapshot: 32 names, 16 entries", &LARGE, 3),
-        step("targets: 32,768 bytes, 16 entries", &LARGE, 4),
-        find("find: 32,768 bytes", &LARGE, 1),
+        step("targets: 16 entries", &LARGE, 4),
+        finds("find: one path", &LARGE, 1),
     ]
 }
 
-/// One step of an update, on the state that the steps before it leave.
-fn step(name: &str, size: &Size, place: usize) -> Work {
-    let mut before = Release::new(1, size).whole();
-    let mut cycle = Release::new(2, size).cycle();
-    cycle.truncate(place + 1);
-    let calls = cycle.split_off(place);
-    before.extend(cycle);
-    Work::new(name, before, calls)
-}
-
-/// So many finds in the targets file that is held.
-fn find(name: &str, size: &Size, count: usize) -> Work {
-    let release = Release::new(1, size);
-    Work::new(name, release.whole(), release.finds(count))
-}
-
-/// Whole updates, and many finds.
+/// Whole updates (new cycle, root, timestamp, snapshot, targets, find), and many finds.
 fn cycles() -> Vec<Work> {
     let cycle = |name, size| Work::new(name, Release::new(1, size).whole(), Release::new(2, size).cycle());
     vec![
         cycle("whole cycle: middle-sized files", &MIDDLE),
         cycle("whole cycle: large files", &LARGE),
-        find("forty finds: 32,768 bytes", &LARGE, 40),
+        finds("forty finds", &LARGE, 40),
     ]
 }
 
-/// The sizes of the files in the second table.
-pub const DOUBLING: [usize; 6] = [1_024, 2_048, 4_096, 8_192, 16_384, 32_768];
-
-/// What is measured as the file doubles.
-pub const GROWING: [(&str, fn(usize) -> Work); 3] = [
-    ("validate", |bytes| {
-        let release = Release::new(1, &one_signer(bytes));
-        Work::new("validate", release.whole(), vec![release.targets_text()])
-    }),
-    ("targets", |bytes| step("targets", &one_signer(bytes), 4)),
-    ("find", |bytes| find("find", &one_signer(bytes), 1)),
-];
-
-fn one_signer(targets: usize) -> Size {
-    Size {
+/// Validating, the targets step and find, as the targets file doubles.
+fn growths() -> Vec<Work> {
+    const DOUBLING: [usize; 6] = [1_024, 2_048, 4_096, 8_192, 16_384, 32_768];
+    let sizes = DOUBLING.map(|targets| Size {
+        role_keys: 1,
         signers: 1,
         targets,
         ..MIDDLE
-    }
+    });
+    let validate = |size| {
+        let release = Release::new(1, size);
+        Work::new("growth: validate", release.whole(), vec![release.targets_text()])
+    };
+    let validates = sizes.iter().map(validate);
+    let targets = sizes.iter().map(|size| step("growth: targets", size, 4));
+    let finds = sizes.iter().map(|size| finds("growth: find", size, 1));
+    let growth = |work| Work {
+        table: Table::Growth,
+        ..work
+    };
+    validates.chain(targets).chain(finds).map(growth).collect()
+}
+
+/// One step of an update, by its place in it, on the state that the steps before it leave.
+fn step(name: &str, size: &Size, place: usize) -> Work {
+    let mut before = Release::new(1, size).whole();
+    let mut cycle = Release::new(2, size).cycle();
+    let step = cycle.remove(place);
+    before.extend(cycle.into_iter().take(place));
+    Work::new(name, before, vec![step])
+}
+
+/// So many finds in the targets file that is held.
+fn finds(name: &str, size: &Size, count: usize) -> Work {
+    let release = Release::new(1, size);
+    Work::new(name, release.whole(), release.finds(count))
 }
