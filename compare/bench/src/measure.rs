@@ -46,8 +46,10 @@ impl Line {
         check(&work)?;
         let rattle = Side::new(&work);
         let ordinary = Side::new(&work);
-        let once = |_| rattle.run(&work.calls, 1) + ordinary.run(&work.calls, 1);
-        let both = (0..10).map(once).min().unwrap_or_default().as_nanos().max(1);
+        let once = |calls| rattle.run(calls, 1) + ordinary.run(calls, 1);
+        let shortest = |calls| (0..10).map(|_| once(calls)).min().unwrap_or_default();
+        let both: Duration = work.parts.iter().map(|calls| shortest(calls)).sum();
+        let both = both.as_nanos().max(1);
         let rounds = (2 * RUN.as_nanos() / both + 1).min(MOST_ROUNDS as u128) as usize;
         let runs = (PASS.as_nanos() / (both * rounds as u128)) as usize;
         Ok(Line {
@@ -62,16 +64,18 @@ impl Line {
     /// Measures both sides by turns.
     pub fn pass(&mut self) {
         for _ in 0..self.runs {
-            self.rattle.add_run(&self.work.calls, self.rounds);
-            self.ordinary.add_run(&self.work.calls, self.rounds);
+            for (part, calls) in self.work.parts.iter().enumerate() {
+                self.rattle.add_run(part, calls, self.rounds);
+                self.ordinary.add_run(part, calls, self.rounds);
+            }
         }
     }
 
     /// The medians of all runs.
     pub fn times(&self) -> Times {
         Times {
-            rattle: self.rattle.median() / self.rounds as f64,
-            ordinary: self.ordinary.median() / self.rounds as f64,
+            rattle: self.rattle.time() / self.rounds as f64,
+            ordinary: self.ordinary.time() / self.rounds as f64,
         }
     }
 }
@@ -95,7 +99,9 @@ impl Times {
 pub fn play_times<C: Client>(work: &Work, times: usize) {
     let side = Side::<C>::new(work);
     for _ in 0..times {
-        side.run(&work.calls, 1);
+        for calls in &work.parts {
+            side.run(calls, 1);
+        }
     }
 }
 
@@ -103,19 +109,21 @@ pub fn play_times<C: Client>(work: &Work, times: usize) {
 struct Side<C> {
     /// The state before the calls.
     state: C,
-    times: Vec<Duration>,
+    /// The time of each run, for each part.
+    times: Vec<Vec<Duration>>,
 }
 
 impl<C: Client> Side<C> {
     fn new(work: &Work) -> Side<C> {
         Side {
             state: play_all(&work.before).0,
-            times: Vec::new(),
+            times: vec![Vec::new(); work.parts.len()],
         }
     }
 
-    fn add_run(&mut self, calls: &[Call], rounds: usize) {
-        self.times.push(self.run(calls, rounds));
+    fn add_run(&mut self, part: usize, calls: &[Call], rounds: usize) {
+        let time = self.run(calls, rounds);
+        self.times[part].push(time);
     }
 
     /// The time of so many rounds of the calls, each on a copy of the state that was made before the clock started.
@@ -132,17 +140,21 @@ impl<C: Client> Side<C> {
         time
     }
 
-    /// In microseconds.
-    fn median(&self) -> f64 {
-        let mut times = self.times.clone();
-        times.sort();
-        times[times.len() / 2].as_secs_f64() * 1e6
+    /// The medians of the parts, added up, in microseconds.
+    fn time(&self) -> f64 {
+        self.times.iter().map(|times| median(times).as_secs_f64() * 1e6).sum()
     }
+}
+
+fn median(times: &[Duration]) -> Duration {
+    let mut times = times.to_vec();
+    times.sort();
+    times[times.len() / 2]
 }
 
 /// Both sides have to give the same answers, hold the same versions, and accept everything.
 fn check(work: &Work) -> Result<(), String> {
-    let calls: Vec<Call> = work.before.iter().chain(&work.calls).cloned().collect();
+    let calls: Vec<Call> = work.before.iter().chain(work.calls()).cloned().collect();
     let (rattle, rattle_answers) = play_all::<rattle::State>(&calls);
     let (ordinary, ordinary_answers) = play_all::<ordinary::State>(&calls);
     for (place, (one, other)) in rattle_answers.iter().zip(&ordinary_answers).enumerate() {

@@ -13,8 +13,9 @@ pub struct Work {
     pub table: Table,
     /// Gives the state that the calls are played on; not measured.
     pub before: Vec<Call>,
-    /// What is measured.
-    pub calls: Vec<Call>,
+    /// What is measured, in parts that do not need one another and whose times are added up. A part is short, so that
+    /// most of its runs are not interrupted.
+    pub parts: Vec<Vec<Call>>,
 }
 
 /// The tables.
@@ -32,13 +33,18 @@ impl Work {
             name: name.to_string(),
             table: Table::Times,
             before,
-            calls,
+            parts: vec![calls],
         }
+    }
+
+    /// The calls of all parts.
+    pub fn calls(&self) -> impl Iterator<Item = &Call> {
+        self.parts.iter().flatten()
     }
 
     /// How many bytes of files or text the calls are given, all together.
     pub fn bytes(&self) -> usize {
-        self.calls.iter().map(bytes).sum()
+        self.calls().map(bytes).sum()
     }
 }
 
@@ -132,5 +138,9 @@ fn step(name: &str, size: &Size, place: usize) -> Work {
 /// So many finds in the targets file that is held.
 fn finds(name: &str, size: &Size, count: usize) -> Work {
     let release = Release::new(1, size);
-    Work::new(name, release.whole(), release.finds(count))
+    let parts = release.finds(count).into_iter().map(|find| vec![find]).collect();
+    Work {
+        parts,
+        ..Work::new(name, release.whole(), Vec::new())
+    }
 }
