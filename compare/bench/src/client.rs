@@ -4,6 +4,9 @@ use ordinary::number_of;
 
 /// A side of the comparison: its calls answer by 01's numbers.
 pub trait Client: Clone {
+    /// The blank state.
+    fn blank() -> Self;
+
     /// Whether the text is canonical.
     fn is_canonical(text: &[u8]) -> bool;
 
@@ -53,6 +56,10 @@ pub struct Versions {
 }
 
 impl Client for ordinary::State {
+    fn blank() -> Self {
+        ordinary::State::default()
+    }
+
     fn is_canonical(text: &[u8]) -> bool {
         ordinary::is_canonical(text)
     }

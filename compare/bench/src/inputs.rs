@@ -1,15 +1,20 @@
-//! The texts and files that are measured.
+//! The texts and files that are measured. Each is made for several shelves, which differ in keys, digests and paths.
 
 use std::collections::BTreeMap;
 
-use side::calls::Call;
+use side::random::Random;
 use side::shelf::files::{Header, LONGEST, Listed, Role, Root, Snapshot, Targets, Timestamp, file, padded};
 use side::shelf::sha256::digest;
 use side::shelf::tree::{Tree, text};
 
+use crate::calls::{Bytes, Call};
+
 /// Well before the files expire.
 const NOW: i64 = 1_800_000_000;
 const EXPIRES: i64 = 1_900_000_000;
+
+/// A shelf's keys have numbers of their own.
+const KEYS_OF_A_SHELF: usize = 16;
 
 /// How large the files of a release are.
 pub struct Size {
@@ -23,7 +28,7 @@ pub struct Size {
     pub names: usize,
     /// Bytes of the targets file.
     pub targets: usize,
-    /// Bytes of the timestamp, padded by an unknown member.
+    /// Bytes of the timestamp, if it is padded by an unknown member.
     pub timestamp: Option<usize>,
 }
 
@@ -39,91 +44,71 @@ pub const MIDDLE: Size = Size {
 
 /// Files at the limits of the forms.
 pub const LARGE: Size = Size {
-    keys: 16,
-    role_keys: 16,
-    signers: 16,
+    keys: KEYS_OF_A_SHELF,
+    role_keys: KEYS_OF_A_SHELF,
+    signers: KEYS_OF_A_SHELF,
     names: 32,
     targets: LONGEST,
     timestamp: None,
 };
 
-/// The files of one version, as they are offered, each with a verdict of 1 for every entry.
+/// The files of one version on a shelf, as they are offered.
 pub struct Release {
-    row: Vec<u8>,
-    root: Vec<u8>,
-    timestamp: Vec<u8>,
-    snapshot: Vec<u8>,
-    targets: Vec<u8>,
+    /// A verdict of 1 for every entry of any of them.
+    row: Bytes,
+    root: Bytes,
+    timestamp: Bytes,
+    snapshot: Bytes,
+    targets: Bytes,
+    targets_digest: Bytes,
     paths: Vec<String>,
 }
 
 impl Release {
     /// The release of this version.
-    pub fn new(version: u64, size: &Size) -> Release {
-        let (targets, paths) = targets_file(version, size);
-        let snapshot = snapshot_file(version, size, &targets);
-        let timestamp = timestamp_file(version, size, &snapshot);
+    pub fn new(shelf: usize, version: u64, size: &Size) -> Release {
+        let maker = Maker { shelf, version, size };
+        let (targets, paths) = maker.targets();
+        let snapshot = maker.snapshot(&targets);
         Release {
-            row: vec![1; size.signers],
-            root: root_file(version, size),
-            timestamp,
-            snapshot,
-            targets,
+            row: vec![1; size.signers].into(),
+            root: maker.root().into(),
+            timestamp: maker.timestamp(&snapshot).into(),
+            snapshot: snapshot.into(),
+            targets_digest: digest(&targets).to_vec().into(),
+            targets: targets.into(),
             paths,
         }
     }
 
-    /// The root as the factory installs it.
-    pub fn install(&self) -> Call {
-        Call::Install {
-            file: self.root.clone(),
-            row: self.row.clone(),
-            time: NOW,
-        }
+    /// All steps from the factory on, up to the targets file.
+    pub fn installed(&self) -> Vec<Call> {
+        let install = Call::Install(self.root.clone(), self.row.clone(), NOW);
+        vec![install, self.timestamp(), self.snapshot(), self.targets()]
     }
 
-    /// The root as the next one.
-    pub fn root(&self) -> Call {
-        Call::Root {
-            file: self.root.clone(),
-            held_row: self.row.clone(),
-            own_row: self.row.clone(),
-        }
-    }
-
-    /// The timestamp.
-    pub fn timestamp(&self) -> Call {
-        Call::Timestamp {
-            file: self.timestamp.clone(),
-            row: self.row.clone(),
-        }
-    }
-
-    /// The snapshot.
-    pub fn snapshot(&self) -> Call {
-        Call::Snapshot {
-            file: self.snapshot.clone(),
-            row: self.row.clone(),
-            digest: digest(&self.snapshot).to_vec(),
-        }
-    }
-
-    /// The targets file.
-    pub fn targets(&self) -> Call {
-        Call::Targets {
-            file: self.targets.clone(),
-            row: self.row.clone(),
-            digest: digest(&self.targets).to_vec(),
-        }
+    /// A whole update: new cycle, root, timestamp, snapshot, targets and one find.
+    pub fn update(&self) -> Vec<Call> {
+        let root = Call::Root(self.root.clone(), self.row.clone());
+        let steps = [
+            Call::NewCycle(NOW + 1),
+            root,
+            self.timestamp(),
+            self.snapshot(),
+            self.targets(),
+        ];
+        steps.into_iter().chain(self.finds(1)).collect()
     }
 
     /// So many finds, of paths from all over the list.
     pub fn finds(&self, count: usize) -> Vec<Call> {
-        let path = |number: usize| &self.paths[(2 * number + 1) * self.paths.len() / (2 * count)];
-        let find = |number| Call::Find {
-            file: self.targets.clone(),
-            digest: digest(&self.targets).to_vec(),
-            path: path(number).clone().into_bytes(),
+        let find = |number: usize| {
+            let path = &self.paths[(2 * number + 1) * self.paths.len() / (2 * count)];
+            Call::Find(
+                self.targets.clone(),
+                self.targets_digest.clone(),
+                path.as_bytes().into(),
+            )
         };
         (0..count).map(find).collect()
     }
@@ -133,80 +118,109 @@ impl Release {
         Call::Text(self.targets.clone())
     }
 
-    /// A whole update: new cycle, root, timestamp, snapshot, targets and one find.
-    pub fn cycle(&self) -> Vec<Call> {
-        let steps = [
-            Call::Cycle(NOW + 1),
-            self.root(),
-            self.timestamp(),
-            self.snapshot(),
-            self.targets(),
-        ];
-        steps.into_iter().chain(self.finds(1)).collect()
+    fn timestamp(&self) -> Call {
+        Call::Timestamp(self.timestamp.clone(), self.row.clone())
     }
 
-    /// Whole from the factory on, up to the targets file.
-    pub fn whole(&self) -> Vec<Call> {
-        vec![self.install(), self.timestamp(), self.snapshot(), self.targets()]
+    fn snapshot(&self) -> Call {
+        let digest = digest(&self.snapshot).to_vec().into();
+        Call::Snapshot(self.snapshot.clone(), self.row.clone(), digest)
+    }
+
+    fn targets(&self) -> Call {
+        Call::Targets(self.targets.clone(), self.row.clone(), self.targets_digest.clone())
     }
 }
 
-fn signers(size: &Size) -> Vec<usize> {
-    (0..size.signers).collect()
+/// Makes the files of a release.
+struct Maker<'a> {
+    shelf: usize,
+    version: u64,
+    size: &'a Size,
 }
 
-fn root_file(version: u64, size: &Size) -> Vec<u8> {
-    let role = || Role::new((0..size.role_keys).collect::<Vec<_>>(), size.signers as u64);
-    let root = Root {
-        header: Header::new(version, EXPIRES),
-        consistent_snapshot: false,
-        keys: (0..size.keys).map(|key| (key, key)).collect(),
-        root: role(),
-        timestamp: role(),
-        snapshot: role(),
-        targets: role(),
-    };
-    file(root.signed(), &signers(size)).written()
-}
-
-fn timestamp_file(version: u64, size: &Size, snapshot: &[u8]) -> Vec<u8> {
-    let timestamp = Timestamp {
-        header: Header::new(version, EXPIRES),
-        snapshot: Listed::whole(version, snapshot),
-    };
-    let file = file(timestamp.signed(), &signers(size));
-    match size.timestamp {
-        Some(length) => padded(&file, length, true),
-        None => file.written(),
-    }
-}
-
-/// `targets.json`, and other names of 32 bytes.
-fn snapshot_file(version: u64, size: &Size, targets: &[u8]) -> Vec<u8> {
-    let name = |number| (format!("delegated-role-number-{number:05}.json"), Listed::whole(1, b""));
-    let mut meta: BTreeMap<_, _> = (1..size.names).map(name).collect();
-    meta.insert("targets.json".to_string(), Listed::whole(version, targets));
-    let header = Header::new(version, EXPIRES);
-    file(Snapshot { header, meta }.signed(), &signers(size)).written()
-}
-
-/// As many targets as the bytes have room for (the rest is padding), and their paths.
-fn targets_file(version: u64, size: &Size) -> (Vec<u8>, Vec<String>) {
-    let path = |number: &usize| format!("images/gate-controller/v3.2.{number}/firmware-{number:03}.bin");
-    let listed = |path: String| (path.clone(), (1_000_000 + path.len() as u64, digest(path.as_bytes())));
-    let with = |count: usize| {
-        let targets = Targets {
-            header: Header::new(version, EXPIRES),
-            targets: (1..=count).map(|number| listed(path(&number))).collect(),
+impl Maker<'_> {
+    fn root(&self) -> Vec<u8> {
+        let role = || Role::new(self.keys(self.size.role_keys), self.size.signers as u64);
+        let keys = self.keys(self.size.keys);
+        let root = Root {
+            header: self.header(),
+            consistent_snapshot: false,
+            keys: keys.into_iter().map(|key| (key, key)).collect(),
+            root: role(),
+            timestamp: role(),
+            snapshot: role(),
+            targets: role(),
         };
-        file(targets.signed(), &signers(size))
-    };
-    let fits = |count: &usize| shortest_padded(&with(*count)) <= size.targets;
-    let counts: Vec<usize> = (0..=256).collect();
-    let most = counts.partition_point(fits) - 1;
-    let mut paths: Vec<String> = (1..=most).map(|number| path(&number)).collect();
-    paths.sort();
-    (padded(&with(most), size.targets, true), paths)
+        self.signed(root.signed()).written()
+    }
+
+    fn timestamp(&self, snapshot: &[u8]) -> Vec<u8> {
+        let timestamp = Timestamp {
+            header: self.header(),
+            snapshot: Listed::whole(self.version, snapshot),
+        };
+        let file = self.signed(timestamp.signed());
+        match self.size.timestamp {
+            Some(length) => padded(&file, length, true),
+            None => file.written(),
+        }
+    }
+
+    /// `targets.json`, and other names of 32 bytes.
+    fn snapshot(&self, targets: &[u8]) -> Vec<u8> {
+        let name = |number| format!("delegated-role-{:03}-{number:08}.json", self.shelf);
+        let listed = |name: String| (name.clone(), Listed::whole(1, name.as_bytes()));
+        let mut meta: BTreeMap<_, _> = (1..self.size.names).map(name).map(listed).collect();
+        meta.insert("targets.json".to_string(), Listed::whole(self.version, targets));
+        let header = self.header();
+        self.signed(Snapshot { header, meta }.signed()).written()
+    }
+
+    /// As many images as the bytes have room for (the rest is padding), and their paths.
+    fn targets(&self) -> (Vec<u8>, Vec<String>) {
+        let fits = |count: &usize| shortest_padded(&self.targets_of(*count)) <= self.size.targets;
+        let counts: Vec<usize> = (0..=256).collect();
+        let most = counts.partition_point(fits) - 1;
+        let mut paths: Vec<String> = (1..=most).map(|number| self.path(number)).collect();
+        paths.sort();
+        (padded(&self.targets_of(most), self.size.targets, true), paths)
+    }
+
+    fn targets_of(&self, count: usize) -> Tree {
+        let listed = |path: String| {
+            let sha256 = digest(path.as_bytes());
+            let length = 1_000_000 + u64::from(sha256[0]) * 4_321;
+            (path, (length, sha256))
+        };
+        let paths = (1..=count).map(|number| self.path(number));
+        let targets = Targets {
+            header: self.header(),
+            targets: paths.map(listed).collect(),
+        };
+        self.signed(targets.signed())
+    }
+
+    fn path(&self, number: usize) -> String {
+        format!(
+            "images/gate-controller/v{}.2.{number}/firmware-{number:03}.bin",
+            self.shelf
+        )
+    }
+
+    fn header(&self) -> Header {
+        Header::new(self.version, EXPIRES)
+    }
+
+    /// The first keys of the shelf.
+    fn keys(&self, count: usize) -> Vec<usize> {
+        let first = self.shelf * KEYS_OF_A_SHELF;
+        (first..first + count).collect()
+    }
+
+    fn signed(&self, signed: Tree) -> Tree {
+        file(signed, &self.keys(self.size.signers))
+    }
 }
 
 /// How long the file is with an empty padding.
@@ -215,41 +229,54 @@ fn shortest_padded(file: &Tree) -> usize {
 }
 
 /// Strings of plain ASCII.
-pub fn plain_strings() -> Call {
-    array_of(|number| text(format!("the quick brown fox number {number} jumps over the lazy dog")))
+pub fn plain_strings(shelf: usize) -> Call {
+    let animals = ["cow", "fox", "goat", "horse", "hedgehog"];
+    array_of(shelf, |random| {
+        let (one, other) = (random.pick(&animals), random.pick(&animals));
+        text(format!("the quick brown {one} number 17 jumps over the lazy {other}"))
+    })
 }
 
 /// Strings of nothing but escapes.
-pub fn dense_escapes() -> Call {
-    array_of(|number| text("\"\\".repeat(8 + number % 16)))
+pub fn dense_escapes(shelf: usize) -> Call {
+    array_of(shelf, |random| {
+        let length = random.between(16, 48);
+        text((0..length).map(|_| random.pick(&['"', '\\'])).collect::<String>())
+    })
 }
 
 /// Strings of characters with two, three and four bytes.
-pub fn multi_byte() -> Call {
-    array_of(|number| text("\u{e4}\u{3b1}\u{20ac}\u{6f22}\u{1f404}\u{f6}".repeat(1 + number % 4)))
+pub fn multi_byte(shelf: usize) -> Call {
+    let characters = ['\u{e4}', '\u{3b1}', '\u{20ac}', '\u{6f22}', '\u{1f404}'];
+    array_of(shelf, |random| {
+        let length = random.between(6, 18);
+        text((0..length).map(|_| random.pick(&characters)).collect::<String>())
+    })
 }
 
 /// Numbers, words, short strings and small objects and arrays.
-pub fn small_values() -> Call {
+pub fn small_values(shelf: usize) -> Call {
     let values = [
         "0",
-        "true",
-        r#"{"a":-17,"b":[]}"#,
-        "null",
-        "[1,[2]]",
-        r#""x""#,
-        "false",
-        "{}",
         "4096",
+        "true",
+        "false",
+        "null",
+        r#""x""#,
+        r#"{"a":-17,"b":[]}"#,
+        "[1,[2]]",
+        "{}",
     ];
-    array_of(|number| Tree::Raw(values[number % values.len()].to_string()))
+    array_of(shelf, |random| Tree::Raw(random.pick(&values).to_string()))
 }
 
 /// An array of such elements that fills a file to the last byte; the last element is padding.
-fn array_of(element: impl Fn(usize) -> Tree) -> Call {
+fn array_of(shelf: usize, element: impl Fn(&mut Random) -> Tree) -> Call {
+    let mut random = Random::new(shelf as u64, "texts that are measured");
     let mut written = b"[".to_vec();
     let room = LONGEST - "\"\"]".len();
-    for next in (0..).map(|number| element(number).written()) {
+    loop {
+        let next = element(&mut random).written();
         if written.len() + next.len() + 1 > room {
             break;
         }
@@ -259,26 +286,33 @@ fn array_of(element: impl Fn(usize) -> Tree) -> Call {
     written.push(b'"');
     written.resize(LONGEST - 2, b'x');
     written.extend_from_slice(b"\"]");
-    Call::Text(written)
+    Call::Text(written.into())
 }
 
 #[cfg(test)]
 mod tests {
     use super::{Call, LARGE, LONGEST, Release, dense_escapes, multi_byte, plain_strings, small_values};
     use paper::forms;
+    use std::collections::BTreeSet;
 
     #[test]
     fn texts_are_canonical_and_as_long_as_a_file_may_be() {
-        for call in [plain_strings(), dense_escapes(), multi_byte(), small_values()] {
-            let Call::Text(text) = call else { panic!("{call:?}") };
-            assert_eq!(text.len(), LONGEST);
-            assert!(paper::json::parse(&text).is_ok());
+        for make in [plain_strings, dense_escapes, multi_byte, small_values] {
+            let texts = [0, 1].map(|shelf| match make(shelf) {
+                Call::Text(text) => text,
+                call => panic!("{call:?}"),
+            });
+            assert_ne!(texts[0], texts[1]);
+            for text in texts {
+                assert_eq!(text.len(), LONGEST);
+                assert!(paper::json::parse(&text).is_ok());
+            }
         }
     }
 
     #[test]
     fn large_files_are_at_the_limits() {
-        let release = Release::new(1, &LARGE);
+        let release = Release::new(3, 1, &LARGE);
         let root = forms::root(&release.root).unwrap();
         assert_eq!((root.entries.len(), root.says.keys.len()), (16, 16));
         assert_eq!(root.says.snapshot.keyids.len(), 16);
@@ -286,19 +320,16 @@ mod tests {
         assert_eq!(snapshot.meta.len(), 32);
         assert_eq!(snapshot.meta.keys().filter(|name| name.len() == 32).count(), 31);
         assert_eq!(release.targets.len(), LONGEST);
-        assert_eq!(
-            forms::targets(&release.targets).unwrap().says.targets.len(),
-            release.paths.len()
-        );
+        let targets = forms::targets(&release.targets).unwrap().says.targets;
+        assert!(targets.keys().eq(&release.paths) && targets.len() > 180);
     }
 
     #[test]
     fn finds_ask_for_different_paths() {
-        let paths = Release::new(1, &LARGE).finds(40).into_iter().map(|call| match call {
-            Call::Find { path, .. } => path,
+        let paths = Release::new(0, 1, &LARGE).finds(40).into_iter().map(|call| match call {
+            Call::Find(_, _, path) => path,
             call => panic!("{call:?}"),
         });
-        let paths: std::collections::BTreeSet<_> = paths.collect();
-        assert_eq!(paths.len(), 40);
+        assert_eq!(paths.collect::<BTreeSet<_>>().len(), 40);
     }
 }

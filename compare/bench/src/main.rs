@@ -1,10 +1,10 @@
 //! Measures the static library against ordinary Rust, on the same inputs, by turns.
 
+mod calls;
 mod client;
 mod inputs;
 mod measure;
 mod options;
-mod play;
 mod rattle;
 mod report;
 mod work;

@@ -1,17 +1,15 @@
 //! Measures lines: both sides by turns, the median of many runs.
 //!
 //! The runs of a line are spread over passes through all lines, so that what else the machine does for a while touches a
-//! few runs of every line and not all runs of one.
+//! few runs of every line and not all runs of one. Each run goes to the next shelf.
 
 use std::hint::black_box;
 use std::time::{Duration, Instant};
 
-use side::calls::Call;
-
+use crate::calls::play;
 use crate::client::Client;
-use crate::play::{play, play_all};
 use crate::rattle;
-use crate::work::Work;
+use crate::work::{Play, Work};
 
 /// How often all lines are gone through.
 pub const PASSES: usize = 25;
@@ -23,11 +21,11 @@ const PASS: Duration = Duration::from_millis(20);
 const FEWEST_RUNS: usize = 10;
 const MOST_RUNS: usize = 100;
 
-/// A run takes about this long at least: several rounds of the calls, if one is shorter.
+/// A run takes about this long at least: shelf after shelf, if one is not enough.
 const RUN: Duration = Duration::from_micros(20);
 
-/// At most so many rounds make a run, so that their states stay in the processor's caches.
-const MOST_ROUNDS: usize = 16;
+/// At most so many shelves make a run, so that their states stay in the processor's caches.
+const MOST_SHELVES: u128 = 16;
 
 /// A line, with what was measured of it so far.
 pub struct Line {
@@ -35,52 +33,67 @@ pub struct Line {
     pub work: Work,
     rattle: Side<rattle::State>,
     ordinary: Side<ordinary::State>,
-    rounds: usize,
+    /// How many shelves a run goes to.
+    shelves: usize,
+    /// How many runs a pass has.
     runs: usize,
+    /// How many there were.
+    done: usize,
 }
 
 impl Line {
-    /// Compares the answers of both sides, and finds out how many runs a pass has time for. Gives the difference if
-    /// there is one.
+    /// Compares the answers of both sides, and finds out how long a run takes. Gives the difference if there is one.
     pub fn new(work: Work) -> Result<Line, String> {
-        check(&work)?;
+        for shelf in &work.shelves {
+            check(shelf).map_err(|difference| format!("{}: {difference}", work.name))?;
+        }
         let rattle = Side::new(&work);
         let ordinary = Side::new(&work);
-        let once = |calls| rattle.run(calls, 1) + ordinary.run(calls, 1);
-        let shortest = |calls| (0..10).map(|_| once(calls)).min().unwrap_or_default();
-        let both: Duration = work.parts.iter().map(|calls| shortest(calls)).sum();
+        let shortest = |part| {
+            let mut once = |shelf| rattle.run(&work, part, shelf, 1) + ordinary.run(&work, part, shelf, 1);
+            (0..10).map(&mut once).min().unwrap_or_default()
+        };
+        let both: Duration = (0..work.shelves[0].parts.len()).map(shortest).sum();
         let both = both.as_nanos().max(1);
-        let rounds = (2 * RUN.as_nanos() / both + 1).min(MOST_ROUNDS as u128) as usize;
-        let runs = (PASS.as_nanos() / (both * rounds as u128)) as usize;
+        let shelves = (2 * RUN.as_nanos() / both + 1).min(MOST_SHELVES) as usize;
+        let runs = (PASS.as_nanos() / both) as usize / shelves;
         Ok(Line {
             work,
             rattle,
             ordinary,
-            rounds,
+            shelves,
             runs: runs.clamp(FEWEST_RUNS, MOST_RUNS),
+            done: 0,
         })
     }
 
-    /// Measures both sides by turns.
+    /// Measures both sides by turns, each as often first as second.
     pub fn pass(&mut self) {
         for _ in 0..self.runs {
-            for (part, calls) in self.work.parts.iter().enumerate() {
-                self.rattle.add_run(part, calls, self.rounds);
-                self.ordinary.add_run(part, calls, self.rounds);
+            let first = self.done * self.shelves;
+            for part in 0..self.rattle.times.len() {
+                if self.done % 2 == 0 {
+                    self.rattle.add_run(&self.work, part, first, self.shelves);
+                    self.ordinary.add_run(&self.work, part, first, self.shelves);
+                } else {
+                    self.ordinary.add_run(&self.work, part, first, self.shelves);
+                    self.rattle.add_run(&self.work, part, first, self.shelves);
+                }
             }
+            self.done += 1;
         }
     }
 
     /// The medians of all runs.
     pub fn times(&self) -> Times {
         Times {
-            rattle: self.rattle.time() / self.rounds as f64,
-            ordinary: self.ordinary.time() / self.rounds as f64,
+            rattle: self.rattle.time() / self.shelves as f64,
+            ordinary: self.ordinary.time() / self.shelves as f64,
         }
     }
 }
 
-/// What was measured of a line: the time of one round of its calls, in microseconds.
+/// What was measured of a line: the time of its calls on one shelf, in microseconds.
 pub struct Times {
     /// The library's.
     pub rattle: f64,
@@ -98,45 +111,54 @@ impl Times {
 /// Plays the calls so many times on one side alone.
 pub fn play_times<C: Client>(work: &Work, times: usize) {
     let side = Side::<C>::new(work);
-    for _ in 0..times {
-        for calls in &work.parts {
-            side.run(calls, 1);
+    for shelf in 0..times {
+        for part in 0..side.times.len() {
+            side.run(work, part, shelf, 1);
         }
     }
 }
 
 /// One side of a line.
 struct Side<C> {
-    /// The state before the calls.
-    state: C,
+    /// The state on each shelf before the calls.
+    states: Vec<C>,
     /// The time of each run, for each part.
     times: Vec<Vec<Duration>>,
 }
 
 impl<C: Client> Side<C> {
     fn new(work: &Work) -> Side<C> {
+        let state_before = |shelf: &Play| {
+            let mut state = C::blank();
+            shelf.before.iter().for_each(|call| drop(play(&mut state, call)));
+            state
+        };
         Side {
-            state: play_all(&work.before).0,
-            times: vec![Vec::new(); work.parts.len()],
+            states: work.shelves.iter().map(state_before).collect(),
+            times: vec![Vec::new(); work.shelves[0].parts.len()],
         }
     }
 
-    fn add_run(&mut self, part: usize, calls: &[Call], rounds: usize) {
-        let time = self.run(calls, rounds);
+    fn add_run(&mut self, work: &Work, part: usize, first: usize, shelves: usize) {
+        let time = self.run(work, part, first, shelves);
         self.times[part].push(time);
     }
 
-    /// The time of so many rounds of the calls, each on a copy of the state that was made before the clock started.
-    fn run(&self, calls: &[Call], rounds: usize) -> Duration {
-        let mut states = vec![self.state.clone(); rounds];
+    /// The time of a part's calls on so many shelves one after the other, each on a copy of the state that was made
+    /// before the clock started.
+    fn run(&self, work: &Work, part: usize, first: usize, shelves: usize) -> Duration {
+        let places = (first..first + shelves).map(|shelf| shelf % work.shelves.len());
+        let mut plays: Vec<_> = places
+            .map(|place| (self.states[place].clone(), &work.shelves[place].parts[part]))
+            .collect();
         let begin = Instant::now();
-        for state in &mut states {
-            for call in calls {
+        for (state, calls) in &mut plays {
+            for call in *calls {
                 black_box(play(state, call));
             }
         }
         let time = begin.elapsed();
-        black_box(&states);
+        black_box(&plays);
         time
     }
 
@@ -153,18 +175,17 @@ fn median(times: &[Duration]) -> Duration {
 }
 
 /// Both sides have to give the same answers, hold the same versions, and accept everything.
-fn check(work: &Work) -> Result<(), String> {
-    let calls: Vec<Call> = work.before.iter().chain(work.calls()).cloned().collect();
-    let (rattle, rattle_answers) = play_all::<rattle::State>(&calls);
-    let (ordinary, ordinary_answers) = play_all::<ordinary::State>(&calls);
-    for (place, (one, other)) in rattle_answers.iter().zip(&ordinary_answers).enumerate() {
+fn check(shelf: &Play) -> Result<(), String> {
+    let (mut rattle, mut ordinary) = (rattle::State::blank(), ordinary::State::blank());
+    for (place, call) in shelf.calls().enumerate() {
+        let (one, other) = (play(&mut rattle, call), play(&mut ordinary, call));
         if one != other || one.answer != 0 {
-            return Err(format!("{}, call {place}: {one:?} and {other:?}", work.name));
+            return Err(format!("call {place}: {one:?} and {other:?}"));
         }
-    }
-    let (one, other) = (rattle.versions(), Client::versions(&ordinary));
-    if one != other {
-        return Err(format!("{}, at the end: {one:?} and {other:?}", work.name));
+        let (one, other) = (rattle.versions(), Client::versions(&ordinary));
+        if one != other {
+            return Err(format!("after call {place}: {one:?} and {other:?}"));
+        }
     }
     Ok(())
 }

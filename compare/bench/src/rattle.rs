@@ -49,6 +49,7 @@ struct HeldVersions {
 }
 
 unsafe extern "C" {
+    fn gronwythal_blank() -> State;
     fn gronwythal_install(file: *const u8, file_len: usize, row: *const u8, row_len: usize, start: i64) -> Step;
     fn gronwythal_new_cycle(state: State, start: i64) -> Step;
     fn gronwythal_root(
@@ -101,6 +102,10 @@ impl State {
 }
 
 impl Client for State {
+    fn blank() -> State {
+        unsafe { gronwythal_blank() }
+    }
+
     fn is_canonical(text: &[u8]) -> bool {
         unsafe { gronwythal_is_canonical(text.as_ptr(), text.len()) }
     }

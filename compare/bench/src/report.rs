@@ -45,7 +45,7 @@ impl Row {
     fn new(line: &Line) -> Row {
         Row {
             name: line.work.name.clone(),
-            bytes: line.work.bytes(),
+            bytes: line.work.shelves[0].bytes(),
             times: line.times(),
         }
     }

@@ -1,9 +1,13 @@
 //! The lines of the tables: what is played before the clock starts, and what is measured.
 
-use side::calls::Call;
 use side::shelf::files::LONGEST;
 
+use crate::calls::Call;
 use crate::inputs::{self, LARGE, MIDDLE, Release, Size};
+
+/// How many shelves a line is measured on: so many that the processor's branch prediction does not learn the files by
+/// heart, and an odd number, so that each side comes first on each of them.
+const SHELVES: usize = 9;
 
 /// One line of a table.
 pub struct Work {
@@ -11,11 +15,8 @@ pub struct Work {
     pub name: String,
     /// Which table it stands in.
     pub table: Table,
-    /// Gives the state that the calls are played on; not measured.
-    pub before: Vec<Call>,
-    /// What is measured, in parts that do not need one another and whose times are added up. A part is short, so that
-    /// most of its runs are not interrupted.
-    pub parts: Vec<Vec<Call>>,
+    /// The same on each shelf.
+    pub shelves: Vec<Play>,
 }
 
 /// The tables.
@@ -27,36 +28,34 @@ pub enum Table {
     Growth,
 }
 
-impl Work {
-    fn new(name: &str, before: Vec<Call>, calls: Vec<Call>) -> Work {
-        Work {
-            name: name.to_string(),
-            table: Table::Times,
-            before,
-            parts: vec![calls],
-        }
-    }
+/// What is played on one shelf.
+pub struct Play {
+    /// Gives the state that the calls are played on; not measured.
+    pub before: Vec<Call>,
+    /// What is measured, in parts that do not need one another and whose times are added up. A part is short, so that
+    /// most of its runs are not interrupted.
+    pub parts: Vec<Vec<Call>>,
+}
 
-    /// The calls of all parts.
+impl Play {
+    /// All calls, those before the clock starts too.
     pub fn calls(&self) -> impl Iterator<Item = &Call> {
-        self.parts.iter().flatten()
+        self.before.iter().chain(self.parts.iter().flatten())
     }
 
-    /// How many bytes of files or text the calls are given, all together.
+    /// How many bytes of files or text are measured, all together.
     pub fn bytes(&self) -> usize {
-        self.calls().map(bytes).sum()
+        self.parts.iter().flatten().map(Call::bytes).sum()
     }
 }
 
-fn bytes(call: &Call) -> usize {
-    match call {
-        Call::Text(file)
-        | Call::Root { file, .. }
-        | Call::Timestamp { file, .. }
-        | Call::Snapshot { file, .. }
-        | Call::Targets { file, .. }
-        | Call::Find { file, .. } => file.len(),
-        _ => 0,
+impl Work {
+    fn new(name: &str, play: impl Fn(usize) -> Play) -> Work {
+        Work {
+            name: name.to_string(),
+            table: Table::Times,
+            shelves: (0..SHELVES).map(play).collect(),
+        }
     }
 }
 
@@ -67,13 +66,20 @@ pub fn all() -> Vec<Work> {
 
 /// Validating text of 32,768 bytes.
 fn texts() -> Vec<Work> {
-    let text = |name, text| Work::new(name, Release::new(1, &MIDDLE).whole(), vec![text]);
+    let validate = |name, text: fn(usize) -> Call| {
+        Work::new(name, |shelf| Play {
+            before: Vec::new(),
+            parts: vec![vec![text(shelf)]],
+        })
+    };
     vec![
-        text("validate: plain ASCII strings", inputs::plain_strings()),
-        text("validate: dense escapes", inputs::dense_escapes()),
-        text("validate: multi-byte UTF-8", inputs::multi_byte()),
-        text("validate: many small values", inputs::small_values()),
-        text("validate: a targets file", Release::new(1, &LARGE).targets_text()),
+        validate("validate: plain ASCII strings", inputs::plain_strings),
+        validate("validate: dense escapes", inputs::dense_escapes),
+        validate("validate: multi-byte UTF-8", inputs::multi_byte),
+        validate("validate: many small values", inputs::small_values),
+        validate("validate: a targets file", |shelf| {
+            Release::new(shelf, 1, &LARGE).targets_text()
+        }),
     ]
 }
 
@@ -93,9 +99,14 @@ fn forms() -> Vec<Work> {
     ]
 }
 
-/// Whole updates (new cycle, root, timestamp, snapshot, targets, find), and many finds.
+/// Whole updates, and many finds.
 fn cycles() -> Vec<Work> {
-    let cycle = |name, size| Work::new(name, Release::new(1, size).whole(), Release::new(2, size).cycle());
+    let cycle = |name, size| {
+        Work::new(name, |shelf| Play {
+            before: Release::new(shelf, 1, size).installed(),
+            parts: vec![Release::new(shelf, 2, size).update()],
+        })
+    };
     vec![
         cycle("whole cycle: middle-sized files", &MIDDLE),
         cycle("whole cycle: large files", &LARGE),
@@ -113,8 +124,10 @@ fn growths() -> Vec<Work> {
         ..MIDDLE
     });
     let validate = |size| {
-        let release = Release::new(1, size);
-        Work::new("growth: validate", release.whole(), vec![release.targets_text()])
+        Work::new("growth: validate", |shelf| Play {
+            before: Vec::new(),
+            parts: vec![vec![Release::new(shelf, 1, size).targets_text()]],
+        })
     };
     let validates = sizes.iter().map(validate);
     let targets = sizes.iter().map(|size| step("growth: targets", size, 4));
@@ -126,21 +139,27 @@ fn growths() -> Vec<Work> {
     validates.chain(targets).chain(finds).map(growth).collect()
 }
 
-/// One step of an update, by its place in it, on the state that the steps before it leave.
+/// One call of an update, by its place in it, on the state that the calls before it leave.
 fn step(name: &str, size: &Size, place: usize) -> Work {
-    let mut before = Release::new(1, size).whole();
-    let mut cycle = Release::new(2, size).cycle();
-    let step = cycle.remove(place);
-    before.extend(cycle.into_iter().take(place));
-    Work::new(name, before, vec![step])
+    Work::new(name, |shelf| {
+        let mut before = Release::new(shelf, 1, size).installed();
+        let mut update = Release::new(shelf, 2, size).update();
+        let step = update.remove(place);
+        before.extend(update.into_iter().take(place));
+        Play {
+            before,
+            parts: vec![vec![step]],
+        }
+    })
 }
 
-/// So many finds in the targets file that is held.
+/// So many finds in the targets file that is held, each a part of its own.
 fn finds(name: &str, size: &Size, count: usize) -> Work {
-    let release = Release::new(1, size);
-    let parts = release.finds(count).into_iter().map(|find| vec![find]).collect();
-    Work {
-        parts,
-        ..Work::new(name, release.whole(), Vec::new())
-    }
+    Work::new(name, |shelf| {
+        let release = Release::new(shelf, 1, size);
+        Play {
+            before: release.installed(),
+            parts: release.finds(count).into_iter().map(|find| vec![find]).collect(),
+        }
+    })
 }

@@ -223,8 +223,21 @@ impl<'a> Reader<'a> {
     }
 }
 
-/// How many bytes from the front stand for themselves: no quotation mark, no backslash, none "below 32".
+/// How many bytes from the front stand for themselves.
 fn plain(bytes: &[u8]) -> usize {
-    let is_special = |byte: &u8| matches!(byte, b'"' | b'\\' | 0..=31);
+    let is_special = |byte: &u8| IS_SPECIAL[usize::from(*byte)];
     bytes.iter().position(is_special).unwrap_or(bytes.len())
 }
+
+/// The bytes that do not stand for themselves in a string: quotation mark, backslash, and those "below 32".
+static IS_SPECIAL: [bool; 256] = {
+    let mut is_special = [false; 256];
+    let mut byte = 0;
+    while byte < 32 {
+        is_special[byte] = true;
+        byte += 1;
+    }
+    is_special[b'"' as usize] = true;
+    is_special[b'\\' as usize] = true;
+    is_special
+};
