@@ -72,7 +72,7 @@ impl Line {
         for _ in 0..self.runs {
             let first = self.done * self.shelves;
             for part in 0..self.rattle.times.len() {
-                if self.done % 2 == 0 {
+                if self.done.is_multiple_of(2) {
                     self.rattle.add_run(&self.work, part, first, self.shelves);
                     self.ordinary.add_run(&self.work, part, first, self.shelves);
                 } else {
@@ -130,7 +130,9 @@ impl<C: Client> Side<C> {
     fn new(work: &Work) -> Side<C> {
         let state_before = |shelf: &Play| {
             let mut state = C::blank();
-            shelf.before.iter().for_each(|call| drop(play(&mut state, call)));
+            for call in &shelf.before {
+                play(&mut state, call);
+            }
             state
         };
         Side {

@@ -109,7 +109,7 @@ pub struct Name {
 
 impl Name {
     fn new(text: Text) -> Option<Name> {
-        let length = text.len();
+        let length = text.length();
         if !(1..=MAX_NAME).contains(&length) {
             return None;
         }
@@ -516,7 +516,7 @@ fn read_targets(reader: &mut Reader, path: Option<&[u8]>) -> text::Result<Option
     let mut count = 0;
     reader.object(|reader, name| {
         count += 1;
-        if count > MAX_TARGETS || !(1..=MAX_PATH).contains(&name.len()) {
+        if count > MAX_TARGETS || !(1..=MAX_PATH).contains(&name.length()) {
             return Err(Fault);
         }
         let target = read_target(reader)?;

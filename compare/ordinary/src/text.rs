@@ -44,7 +44,7 @@ impl<'a> Text<'a> {
     }
 
     /// How many bytes there are after the escapes are undone.
-    pub fn len(self) -> usize {
+    pub fn length(self) -> usize {
         self.raw.len() - self.escapes
     }
 
