@@ -1,0 +1,112 @@
+//! What is measured, in a form that both sides have.
+
+use ordinary::number_of;
+
+/// A side of the comparison: its calls answer by 01's numbers.
+pub trait Client: Clone {
+    /// The blank state.
+    fn blank() -> Self;
+
+    /// Whether the text is canonical.
+    fn is_canonical(text: &[u8]) -> bool;
+
+    /// Install, and the state after it.
+    fn install(file: &[u8], row: &[u8], start: i64) -> (u8, Self);
+
+    /// New cycle.
+    fn new_cycle(&mut self, start: i64) -> u8;
+
+    /// Root.
+    fn root(&mut self, file: &[u8], held_row: &[u8], own_row: &[u8]) -> u8;
+
+    /// Timestamp.
+    fn timestamp(&mut self, file: &[u8], row: &[u8]) -> u8;
+
+    /// Snapshot.
+    fn snapshot(&mut self, file: &[u8], row: &[u8], digest: &[u8]) -> u8;
+
+    /// Targets.
+    fn targets(&mut self, file: &[u8], row: &[u8], digest: &[u8]) -> u8;
+
+    /// Find.
+    fn find(&self, file: &[u8], digest: &[u8], path: &[u8]) -> Found;
+
+    /// What is held.
+    fn versions(&self) -> Versions;
+}
+
+/// What find gives; zeros where it is refused.
+#[derive(Clone, Debug, PartialEq, Eq)]
+pub struct Found {
+    /// 01's number.
+    pub answer: u8,
+    /// The listed length.
+    pub length: u64,
+    /// The listed digest.
+    pub digest: [u8; 32],
+}
+
+/// The held versions of root, timestamp, snapshot and targets, and the start time in force.
+#[derive(Clone, Debug, PartialEq, Eq)]
+pub struct Versions {
+    /// The version of each record that is held.
+    pub held: [Option<u64>; 4],
+    /// The start time.
+    pub start: i64,
+}
+
+impl Client for ordinary::State {
+    fn blank() -> Self {
+        ordinary::State::default()
+    }
+
+    fn is_canonical(text: &[u8]) -> bool {
+        ordinary::is_canonical(text)
+    }
+
+    fn install(file: &[u8], row: &[u8], start: i64) -> (u8, Self) {
+        let result = ordinary::State::install(file, row, start);
+        (number_of(&result), result.unwrap_or_default())
+    }
+
+    fn new_cycle(&mut self, start: i64) -> u8 {
+        self.new_cycle(start);
+        0
+    }
+
+    fn root(&mut self, file: &[u8], held_row: &[u8], own_row: &[u8]) -> u8 {
+        number_of(&self.root(file, held_row, own_row))
+    }
+
+    fn timestamp(&mut self, file: &[u8], row: &[u8]) -> u8 {
+        number_of(&self.timestamp(file, row))
+    }
+
+    fn snapshot(&mut self, file: &[u8], row: &[u8], digest: &[u8]) -> u8 {
+        number_of(&self.snapshot(file, row, digest))
+    }
+
+    fn targets(&mut self, file: &[u8], row: &[u8], digest: &[u8]) -> u8 {
+        number_of(&self.targets(file, row, digest))
+    }
+
+    fn find(&self, file: &[u8], digest: &[u8], path: &[u8]) -> Found {
+        match self.find(file, digest, path) {
+            Ok(target) => Found {
+                answer: 0,
+                length: target.length,
+                digest: target.sha256,
+            },
+            Err(refusal) => Found {
+                answer: refusal as u8,
+                length: 0,
+                digest: [0; 32],
+            },
+        }
+    }
+
+    fn versions(&self) -> Versions {
+        let (held, start) = self.versions();
+        Versions { held, start }
+    }
+}
