@@ -34,7 +34,7 @@ s10 c = s5 (c .before .before .before .before .before .before .before .before .b
 past10 : (c : tie.Else10) → Passed 10 (s10 c)
 unfolding findTable
 past10 c q w g l es = then _ _ _ (past5 (c .before .before .before .before .before .before .before .before .before .before) q w g l es)
-    (rw (w .digest-is) (λ m h. search table depth 20))
+    (λ m h. search table depth 20)
 
 abbrev s12 : tie.Else12 → tie.Start
 s12 c = s10 (c .before .before .before .before)
@@ -90,42 +90,42 @@ has-stale-snapshot-requires c κs = search needs
 
 returns-6 : tie.Need-returns-6
 unfolding findTable
-returns-6 c q w g l es = past5 (c .before .before) q w g l es _ (rw (w .digest-is) (search table depth 20))
+returns-6 c q w g l es = past5 (c .before .before) q w g l es _ (search table depth 20)
 
 has-stale-targets-requires : tie.Need-has-stale-targets-requires
 has-stale-targets-requires c κs = search needs
 
 returns-7 : tie.Need-returns-7
 unfolding findTable
-returns-7 c q w g l es = past5 (c .before .before .before .before) q w g l es _ (rw (w .digest-is) (search table depth 20))
+returns-7 c q w g l es = past5 (c .before .before .before .before) q w g l es _ (search table depth 20)
 
 has-past-root-requires : tie.Need-has-past-root-requires
 has-past-root-requires c κs = search needs
 
 returns-8 : tie.Need-returns-8
 unfolding findTable
-returns-8 c q w g l es = past5 (c .before .before .before .before .before .before) q w g l es _ (rw (w .digest-is) (search table depth 20))
+returns-8 c q w g l es = past5 (c .before .before .before .before .before .before) q w g l es _ (search table depth 20)
 
 has-past-timestamp-requires : tie.Need-has-past-timestamp-requires
 has-past-timestamp-requires c κs = search needs
 
 returns-9 : tie.Need-returns-9
 unfolding findTable
-returns-9 c q w g l es = past5 (c .before .before .before .before .before .before .before .before) q w g l es _ (rw (w .digest-is) (search table depth 20))
+returns-9 c q w g l es = past5 (c .before .before .before .before .before .before .before .before) q w g l es _ (search table depth 20)
 
 has-past-snapshot-requires : tie.Need-has-past-snapshot-requires
 has-past-snapshot-requires c κs = search needs
 
 returns-10 : tie.Need-returns-10
 unfolding findTable
-returns-10 c q w g l es = past5 (c .before .before .before .before .before .before .before .before .before .before) q w g l es _ (rw (w .digest-is) (search table depth 20))
+returns-10 c q w g l es = past5 (c .before .before .before .before .before .before .before .before .before .before) q w g l es _ (search table depth 20)
 
 has-past-targets-requires : tie.Need-has-past-targets-requires
 has-past-targets-requires c κs = search needs
 
 returns-11 : tie.Need-returns-11
 unfolding findTable
-returns-11 c q w g l es = past10 (c .before .before) q w g l es _ (rw (w .digest-is) (search table depth 20))
+returns-11 c q w g l es = past10 (c .before .before) q w g l es _ (search table depth 20)
 
 has-other-kept-requires : tie.Need-has-other-kept-requires
 has-other-kept-requires c κs = search needs

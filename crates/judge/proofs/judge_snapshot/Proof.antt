@@ -22,7 +22,7 @@ s4 c = c .before .before .before .before .before .before .before .before .before
 
 past4 : (c : tie.Else4) → Passed 4 (s4 c)
 unfolding snapshotTable viewSnapshot
-past4 c o g = rw (g .row-is, g .size-is, g .digest-is) (λ m h. search table depth 20)
+past4 c o g = rw (g .row-is, g .digest-is) (λ m h. search table depth 20)
 
 abbrev s8 : tie.Else8 → tie.Start
 s8 c = s4 (c .before .before .before .before .before .before .before .before)
@@ -30,63 +30,63 @@ s8 c = s4 (c .before .before .before .before .before .before .before .before)
 past8 : (c : tie.Else8) → Passed 8 (s8 c)
 unfolding snapshotTable viewSnapshot
 past8 c o g = then _ _ _ (past4 (c .before .before .before .before .before .before .before .before) o g)
-    (rw (g .row-is, g .size-is, g .digest-is) (λ m h. search table depth 20))
+    (rw (g .size-is, g .digest-is) (λ m h. search table depth 20))
 
 bad-row-requires : tie.Need-bad-row-requires
 bad-row-requires c κs = search needs
 
 returns : tie.Need-returns
 unfolding snapshotTable viewSnapshot
-returns c o g = rw (g .row-is, g .size-is, g .digest-is) (search table depth 20)
+returns c o g = rw (g .row-is) (search table depth 20)
 
 is-bad-digest-requires : tie.Need-is-bad-digest-requires
 is-bad-digest-requires c κs = search needs
 
 returns-2 : tie.Need-returns-2
 unfolding snapshotTable viewSnapshot
-returns-2 c o g = rw (g .row-is, g .size-is, g .digest-is) (search table depth 20)
+returns-2 c o g = rw (g .row-is, g .digest-is) (search table depth 20)
 
 lacks-root-requires : tie.Need-lacks-root-requires
 lacks-root-requires c κs = search needs
 
 returns-3 : tie.Need-returns-3
 unfolding snapshotTable viewSnapshot
-returns-3 c o g = rw (g .row-is, g .size-is, g .digest-is) (search table depth 20)
+returns-3 c o g = rw (g .row-is, g .digest-is) (search table depth 20)
 
 lacks-timestamp-requires : tie.Need-lacks-timestamp-requires
 lacks-timestamp-requires c κs = search needs
 
 returns-4 : tie.Need-returns-4
 unfolding snapshotTable viewSnapshot
-returns-4 c o g = rw (g .row-is, g .size-is, g .digest-is) (search table depth 20)
+returns-4 c o g = rw (g .row-is, g .digest-is) (search table depth 20)
 
 has-past-root-requires : tie.Need-has-past-root-requires
 has-past-root-requires c κs = search needs
 
 returns-5 : tie.Need-returns-5
 unfolding snapshotTable viewSnapshot
-returns-5 c o g = past4 (c .before .before) o g _ (rw (g .row-is, g .size-is, g .digest-is) (search table depth 20))
+returns-5 c o g = past4 (c .before .before) o g _ (search table depth 20)
 
 has-past-timestamp-requires : tie.Need-has-past-timestamp-requires
 has-past-timestamp-requires c κs = search needs
 
 returns-6 : tie.Need-returns-6
 unfolding snapshotTable viewSnapshot
-returns-6 c o g = past4 (c .before .before .before .before) o g _ (rw (g .row-is, g .size-is, g .digest-is) (search table depth 20))
+returns-6 c o g = past4 (c .before .before .before .before) o g _ (search table depth 20)
 
 has-other-length-requires : tie.Need-has-other-length-requires
 has-other-length-requires c κs = search needs
 
 returns-7 : tie.Need-returns-7
 unfolding snapshotTable viewSnapshot
-returns-7 c o g = past4 (c .before .before .before .before .before .before) o g _ (rw (g .row-is, g .size-is, g .digest-is) (search table depth 20))
+returns-7 c o g = past4 (c .before .before .before .before .before .before) o g _ (rw (g .size-is) (search table depth 20))
 
 has-other-digest-requires : tie.Need-has-other-digest-requires
 has-other-digest-requires c κs = search needs
 
 returns-8 : tie.Need-returns-8
 unfolding snapshotTable viewSnapshot
-returns-8 c o g = past4 (c .before .before .before .before .before .before .before .before) o g _ (rw (g .row-is, g .size-is, g .digest-is) (search table depth 20))
+returns-8 c o g = past4 (c .before .before .before .before .before .before .before .before) o g _ (rw (g .size-is, g .digest-is) (search table depth 20))
 
 has-few-for-snapshot-requires : tie.Need-has-few-for-snapshot-requires
 has-few-for-snapshot-requires c κs = search needs
