@@ -46,7 +46,7 @@ pub fn hex_digit(b: u8) -> u8
 }
 
 // The byte k places after i, 0 past the end.
-fn byte_after(a: &[u8], i: usize, k: usize) -> u8
+pub fn byte_after(a: &[u8], i: usize, k: usize) -> u8
     ensures { λ r. ⌜ r ≡ byteAt (now (a .entry)) (i + k) ⌝ }
 {
     if a.len() <= i {

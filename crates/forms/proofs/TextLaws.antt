@@ -1,21 +1,26 @@
 -- Strings of a known length: a buffer that is filled, hex that is undone, a date.
 use mathlib.Core.Path.{_≡_, refl, sym, ap, _∙_}
-use mathlib.Core.List.{[], _∷_, append-nil}
+use mathlib.Core.List.{[], _∷_, _++_, append-nil}
 use mathlib.Core.Option.{none, some}
 use mathlib.Core.Bool.{Bool, true, false, cond}
-use Prim.Native.Nat.{ℕ, zero, suc, _*_}
+use Prim.Native.Nat.{ℕ, zero, suc, _+_, _-_, _*_, _<_}
 use native.Mathlib.Omega.{arith}
-use lib.ListN.{length}
-use lib.Seq.{take-all}
-use borrow.Author.Tests.{eq-eqb, ne-eqb, eqb-false, le-leb}
+use lib.Dec.{eqb, ltb}
+use lib.ListN.{length, take, drop, take-append-drop}
+use lib.Seq.{take-all, drop-drop}
+use borrow.Author.Tests.{eq-eqb, ne-eqb, eqb-false, le-leb, ltb-true, ltb-false}
 use Rattle.base.specs.Bytes.{Bytes}
-use Rattle.base.specs.Window.{window}
-use Rattle.base.specs.Hex.{isHex, undo, Undone}
-use Rattle.base.proofs.PlaceLaws.{at-end}
+use Rattle.base.specs.Window.{window, byteAt}
+use Rattle.base.specs.Hex.{digitOf, allHex, isHex, undo, Undone}
+use Rattle.base.proofs.TestLaws.{both}
+use Rattle.base.proofs.PlaceLaws.{at-cons, at-end}
 use Rattle.base.proofs.HexLaws.{not-long, hex-parts}
-use Rattle.base.proofs.WindowLaws.{window-part}
+use Rattle.base.proofs.WindowLaws.{window-part, byte-past}
+use Rattle.json.specs.Json.{putBytes, isEscaped}
+use Rattle.json.specs.Read.{raw}
 use Rattle.json.specs.Fields.{keep}
 use Rattle.lookup.specs.Leaves.{copied, Copies}
+use Rattle.lookup.proofs.StringLaws.{raw-bytes}
 use Rattle.date.specs.Calendar.{form, dateOf}
 use Rattle.date.proofs.FormLaws.{form-lengths}
 use Rattle.rules.specs.Take.{unhex}
@@ -50,6 +55,15 @@ undo-length (suc n) [] e = absurd (omega arith)
 undo-length (suc n) (a ∷ []) e = absurd (omega arith)
 undo-length (suc n) (a ∷ (b ∷ t)) e = ap suc (undo-length n t (omega arith))
 
+-- digits t, undone into n zeros
+unhex-undone : (n : ℕ) (t zeros out : Bytes) (ok : Bool) → length zeros ≡ n → Undone t zeros ok out → keep ok (window out 0 n) ≡ unhex n t
+unfolding unhex keep
+unhex-undone n t zeros out ok z u = step ok (u .answer ∙ rw z) (u .buffer)
+  where
+    step : (ok : Bool) → ok ≡ isHex n t → out ≡ cond ok (undo t) zeros → keep ok (window out 0 n) ≡ keep (isHex n t) (undo t)
+    step true k e = rw (← k) (ap some (rw e (whole-window (undo t) n (undo-length n t (hex-parts n t (sym k) .0)))))
+    step false k e = rw (← k) refl
+
 module _ (n : ℕ) (t b after : Bytes) (done : Bool) (long : length b ≡ n * 2) (w : Fills t b done after) where
   pub unhex-not : done ≡ false → none ≡ unhex n t
   unfolding unhex keep
@@ -58,15 +72,58 @@ module _ (n : ℕ) (t b after : Bytes) (done : Bool) (long : length b ≡ n * 2)
       rw (not-long n t x)
 
   pub unhex-is : done ≡ true → (zeros out : Bytes) (ok : Bool) → length zeros ≡ n → Undone after zeros ok out → keep ok (window out 0 n) ≡ unhex n t
-  unfolding unhex keep
   unhex-is d zeros out ok z u =
       let a : after ≡ t = w .is ∙ rw d in
-      let k : ok ≡ isHex n t = u .answer ∙ rw (z, a) in
-      step ok k (u .buffer ∙ rw a)
+      unhex-undone n after zeros out ok z u ∙ ap (unhex n) a
+
+-- ## Hex that is undone where it stands
+
+-- a digit is no quote and no backslash
+plain-digit : (b : ℕ) → digitOf b < 16 → isEscaped b ≡ false
+unfolding digitOf
+plain-digit b h = rw (ne-eqb b 34 quote, ne-eqb b 92 back)
+  where
+    quote : b ≡ 34 → ⊥
+    quote e = let k : digitOf 34 < 16 = rw e at h in omega arith
+
+    back : b ≡ 92 → ⊥
+    back e = let k : digitOf 92 < 16 = rw e at h in omega arith
+
+-- digits are written as they are
+put-hex : (t r : Bytes) → allHex t ≡ true → putBytes t r ≡ t ++ r
+unfolding putBytes allHex
+put-hex [] r e = refl
+put-hex (b ∷ t) r e =
+    let w = both (ltb (digitOf b) 16) (allHex t) e in
+    rw (plain-digit b (ltb-true (digitOf b) 16 (w .0)), put-hex t r (w .1))
+
+module _ (s : Bytes) (i m : ℕ) (q : byteAt s (i + m) ≡ 34) where
+  pub quote-inside : i + m < length s
+  quote-inside = go (ltb (i + m) (length s)) refl
     where
-      step : (ok : Bool) → ok ≡ isHex n t → out ≡ cond ok (undo t) zeros → keep ok (window out 0 n) ≡ keep (isHex n t) (undo t)
-      step true k e = rw (← k) (ap some (rw e (whole-window (undo t) n (undo-length n t (hex-parts n t (sym k) .0)))))
-      step false k e = rw (← k) refl
+      go : (x : Bool) → ltb (i + m) (length s) ≡ x → i + m < length s
+      go true e = ltb-true (i + m) (length s) e
+      go false e =
+          let z = byte-past s (i + m) (ltb-false (i + m) (length s) e) in
+          absurd (omega arith)
+
+  -- up to the quote that stands m bytes after i there are digits: they are the string
+  raw-hex : allHex (take m (drop i s)) ≡ true → raw (drop i s) ≡ take m (drop i s)
+  unfolding byteAt
+  raw-hex e =
+      let t = take m (drop i s) in
+      let r = drop (i + m + 1) s in
+      let cut : drop i s ≡ t ++ (34 ∷ r) = sym (take-append-drop m (drop i s)) ∙ ap (λ (x : Bytes). t ++ x) (drop-drop m i s ∙ at-cons s (i + m) quote-inside ∙ ap (λ (b : ℕ). b ∷ r) q) in
+      ap raw (cut ∙ sym (put-hex t (34 ∷ r) e)) ∙ raw-bytes t r
+
+pub unhex-plain : (n : ℕ) (s : Bytes) (i e : ℕ) → e ≡ i + n * 2 → byteAt s (i + n * 2) ≡ 34 → (zeros out : Bytes) (ok : Bool) → length zeros ≡ n
+    → Undone (take (e - i) (drop i s)) zeros ok out → ok ≡ true → keep ok (window out 0 n) ≡ unhex n (raw (drop i s))
+unhex-plain n s i e l q zeros out ok z u k =
+    let t = take (e - i) (drop i s) in
+    let m : e - i ≡ n * 2 = omega arith in
+    let h = hex-parts n t (sym (u .answer ∙ rw z) ∙ k) .1 in
+    let p : raw (drop i s) ≡ t = rw m (raw-hex s i (n * 2) q (rw m at h)) in
+    unhex-undone n t zeros out ok z u ∙ ap (unhex n) (sym p)
 
 -- ## A date
 

@@ -59,8 +59,8 @@ fn no_sig() -> Bytes64
     }
 }
 
-// 64 lower-case hex digits, the string just past its opening quote at `i`.
-pub fn id_in(s: &[u8], i: usize) -> IdAt
+// 64 digits, the string just past its opening quote at `i`. In a canonical text hex has no escape; the answer is pinned for every text.
+fn id_escaped(s: &[u8], i: usize) -> IdAt
     ensures { λ r. ⌜ viewIdAt r ≡ unhex keySize (raw (drop i (now (s .entry)))) ⌝ }
 {
     let mut digits = [0u8; 64];
@@ -76,7 +76,7 @@ pub fn id_in(s: &[u8], i: usize) -> IdAt
 }
 
 // 128 digits.
-fn sig_in(s: &[u8], i: usize) -> Bytes64
+fn sig_escaped(s: &[u8], i: usize) -> Bytes64
     ensures { λ r. ⌜ viewSig r ≡ unhex signatureSize (raw (drop i (now (s .entry)))) ⌝ }
 {
     let mut digits = [0u8; 128];
@@ -84,6 +84,40 @@ fn sig_in(s: &[u8], i: usize) -> Bytes64
         return no_sig();
     }
     base::hex64(&digits)
+}
+
+// 64 lower-case hex digits, the string just past its opening quote at `i`: undone where they stand, if a quote closes them.
+pub fn id_in(s: &[u8], i: usize) -> IdAt
+    ensures { λ r. ⌜ viewIdAt r ≡ unhex keySize (raw (drop i (now (s .entry)))) ⌝ }
+{
+    if base::byte_after(s, i, 64) != b'"' {
+        return id_escaped(s, i);
+    }
+    let e = i + 64;
+    let undone = base::hex32(&s[i..e]);
+    if !undone.ok {
+        return id_escaped(s, i);
+    }
+    let bytes = undone.bytes;
+    IdAt {
+        ok: undone.ok,
+        id: Id { bytes },
+    }
+}
+
+// 128 digits.
+fn sig_in(s: &[u8], i: usize) -> Bytes64
+    ensures { λ r. ⌜ viewSig r ≡ unhex signatureSize (raw (drop i (now (s .entry)))) ⌝ }
+{
+    if base::byte_after(s, i, 128) != b'"' {
+        return sig_escaped(s, i);
+    }
+    let e = i + 128;
+    let undone = base::hex64(&s[i..e]);
+    if !undone.ok {
+        return sig_escaped(s, i);
+    }
+    undone
 }
 
 pub fn id_at(s: &[u8], at: usize) -> IdAt

@@ -1,42 +1,60 @@
--- `sig_in` meets its contract.
+-- `sig_in` meets its contract: digits up to a quote are the whole string.
+use mathlib.Core.Path.{refl, sym, _∙_}
 use borrow.Author.Needs.{needs}
-use Rattle.forms.proofs.TextLaws.{unhex-not, unhex-is}
-use borrow.Author.Tests.{not-true, not-false}
-use mathlib.Core.Path.{refl, _∙_}
+use borrow.Author.Tests.{not-false}
 use Rattle.forms.specs.View.{viewSig}
+use Rattle.forms.proofs.TextLaws.{quote-inside, unhex-plain}
 use Rattle.forms.proofs.sig_in.Statement.{statement}
 use Rattle.forms.proofs.sig_in.Tie as tie
 
-slice-aggregate-fill-text : tie.Need-slice-aggregate-fill-text
-slice-aggregate-fill-text c = search needs
+byte-after-requires : tie.Need-byte-after-requires
+byte-after-requires c κs = search needs
 
-fill-text-requires : tie.Need-fill-text-requires
-fill-text-requires c κs = search needs
-
-no-sig-requires : tie.Need-no-sig-requires
-no-sig-requires c κs = search needs
+sig-escaped-requires : tie.Need-sig-escaped-requires
+sig-escaped-requires c κs = search needs
 
 returns : tie.Need-returns
-returns c = c .no-sig .ensures ∙ unhex-not 64 _ _ _ _ refl (c .before .before .before .fill-text .ensures) (not-true _ (c .before .if1 .taken))
+returns c = search needs
 
-slice-aggregate-hex64 : tie.Need-slice-aggregate-hex64
-slice-aggregate-hex64 c = search needs
+add-e : tie.Need-add-e
+add-e c = let h = quote-inside _ _ 128 (sym (c .before .byte-after .ensures) ∙ c .if1 .left) in search needs
+
+sub-hex64 : tie.Need-sub-hex64
+sub-hex64 c = search needs
+
+part-hex64-start : tie.Need-part-hex64-start
+part-hex64-start c = search needs
+
+part-hex64-end : tie.Need-part-hex64-end
+part-hex64-end c = let h = quote-inside _ _ 128 (sym (c .before .byte-after .ensures) ∙ c .if1 .left) in search needs
 
 hex64-requires : tie.Need-hex64-requires
 hex64-requires c κs = search needs
 
+sig-escaped-requires-2 : tie.Need-sig-escaped-requires-2
+sig-escaped-requires-2 c κs = search needs
+
 returns-2 : tie.Need-returns-2
+returns-2 c = search needs
+
+returns-3 : tie.Need-returns-3
 unfolding viewSig
-returns-2 c = unhex-is 64 _ _ _ _ refl (c .before .before .before .before .fill-text .ensures) (not-false _ (c .before .before .if1 .left)) _ _ _ refl (c .hex64 .ensures)
+returns-3 c =
+    let q = sym (c .before .before .before .before .before .byte-after .ensures) ∙ c .before .before .before .before .if1 .left in
+    unhex-plain 64 _ _ _ refl q _ _ _ refl (c .before .before .hex64 .ensures) (not-false _ (c .if2 .left))
 
 pub sig-in-spec : {M : Type 1} → statement M
 sig-in-spec =
     tie.close
     (tie.spec
-    slice-aggregate-fill-text
-    fill-text-requires
-    no-sig-requires
+    byte-after-requires
+    sig-escaped-requires
     returns
-    slice-aggregate-hex64
+    add-e
+    sub-hex64
+    part-hex64-start
+    part-hex64-end
     hex64-requires
-    returns-2)
+    sig-escaped-requires-2
+    returns-2
+    returns-3)
