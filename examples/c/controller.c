@@ -115,7 +115,7 @@ static row verdicts(const gw_state *keys, const file *f)
 /*
  * The keys that a root file itself lists, to check its signatures under: a state that holds the file as if every signature were good.
  * Nothing may be believed by this state; it is asked for keys and dropped. If the file is refused even so, it holds none, every verdict
- * is 0, and the true step refuses the file for the same reason.
+ * is 0, and the true step refuses the file too: true verdicts would be no better than all good ones.
  */
 static gw_state own_keys(const file *f)
 {

@@ -63,7 +63,7 @@ fn verdicts(keys: &State, file: &File) -> Vec<u8> {
 
 /// The keys that a root file itself lists, to check its signatures under: a state that holds the file as if every signature were good.
 /// Nothing may be believed by this state; it is asked for keys and dropped. If the file is refused even so, it holds none, every verdict is
-/// 0, and the true step refuses the file for the same reason.
+/// 0, and the true step refuses the file too: true verdicts would be no better than all good ones.
 fn own_keys(file: &File) -> State {
     let entries = look(&file.bytes).map_or(0, |look| look.entries);
     State::install(&file.bytes, &[1; MAX_ENTRIES][..entries], 0).unwrap_or_default()
