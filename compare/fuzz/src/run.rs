@@ -121,7 +121,11 @@ impl<'a, L: Library> Pair<'a, L> {
         let said = paper_says(&mut paper, &made.call).ok_or("no call of the C interface")?;
         let held = Held::of(&paper);
 
-        let side = if number.is_multiple_of(2) { Side::End } else { Side::Start };
+        let side = if number.is_multiple_of(2) {
+            Side::End
+        } else {
+            Side::Start
+        };
         let lent = self.memory.lend(&made.call, side).ok_or("no call of the C interface")?;
         let mut state = self.state.clone();
         let answer = self.library.call(&mut state, &lent);

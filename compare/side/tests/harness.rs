@@ -194,7 +194,11 @@ fn words_that_name_no_group_fail() {
 
 #[test]
 fn minutes_go_on_with_fresh_seeds() {
-    let run = side("", &["--only", "damaged", "--seed", "5", "--minutes", "0.05"]);
+    let start = Instant::now();
+    side("", &["--only", "damaged", "--seed", "5"]).must_pass("1 passed, 0 failed");
+    // Enough for a first round to end in time, on a busy machine too.
+    let minutes = (start.elapsed().as_secs_f64() * 3.0 / 60.0).to_string();
+    let run = side("", &["--only", "damaged", "--seed", "5", "--minutes", &minutes]);
     run.must_pass("1 passed, 0 failed");
     assert!(
         run.text.contains("seed 5,") && run.text.contains("seed 6,"),
