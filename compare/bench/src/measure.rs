@@ -191,3 +191,43 @@ fn check(shelf: &Play) -> Result<(), String> {
     }
     Ok(())
 }
+
+#[cfg(test)]
+mod tests {
+    use super::{Line, check, median};
+    use crate::calls::Call;
+    use crate::work::{self, Play};
+    use std::time::Duration;
+
+    #[test]
+    fn what_is_refused_is_not_measured() {
+        let play = |text: &[u8]| Play {
+            before: Vec::new(),
+            parts: vec![vec![Call::Text(text.into())]],
+        };
+        assert_eq!(check(&play(b"[]")), Ok(()));
+        assert!(check(&play(b"[ ]")).is_err());
+    }
+
+    #[test]
+    fn both_sides_agree_on_every_line_and_are_measured() {
+        for work in work::all() {
+            let parts = work.shelves[0].parts.len();
+            let mut line = Line::new(work).unwrap();
+            line.runs = 1;
+            line.pass();
+            assert!(line.rattle.times.iter().all(|times| times.len() == 1) && line.rattle.times.len() == parts);
+            assert!(
+                line.times().rattle > 0.0 && line.times().ordinary > 0.0,
+                "{}",
+                line.work.name
+            );
+        }
+    }
+
+    #[test]
+    fn the_median_is_the_one_in_the_middle() {
+        let times = [9, 1, 5].map(Duration::from_micros);
+        assert_eq!(median(&times), Duration::from_micros(5));
+    }
+}
