@@ -15,9 +15,10 @@ use Rattle.json.specs.Json.{Json, jnull, jtrue, jfalse, num, str, arr, obj, Val
 use Rattle.json.specs.Read.{NoDigit}
 use Rattle.json.specs.Fields.{keep, between, decimal, natural, number}
 use Rattle.json.proofs.Puts.{put-num}
+use Rattle.skip.proofs.DigitLaws.{all-digits}
 use Rattle.lookup.specs.Place.{Stands, Takes}
 use Rattle.lookup.specs.Leaves.{leading, leadingTo, numberIn}
-use Rattle.lookup.proofs.FirstByte.{isNatural, all-digits}
+use Rattle.lookup.proofs.FirstByte.{isNatural}
 use Rattle.lookup.proofs.StandsLaws.{front}
 
 -- ## Digits, one after the other: n before those at i

@@ -11,11 +11,10 @@ use borrow.Author.Tests.{leb-true, leb-false}
 use Rattle.base.specs.Bytes.{Bytes}
 use Rattle.base.proofs.PlaceLaws.{at-cons, at-end}
 use Rattle.json.specs.Json.{Json, put, Canonical, maxDepth}
-use Rattle.json.specs.Read.{Got, got, endOf, read}
-use Rattle.json.specs.declared.Skip.the-variants as skip
-use Rattle.json.proofs.Complete.{complete}
-use Rattle.json.proofs.Rest.{located, read-fits}
+use Rattle.json.specs.declared.Skip.{Skip}
+use Rattle.json.specs.declared.Skip.the-variants.{No, End}
 use Rattle.json.proofs.Slices.{put-split}
+use Rattle.skip.specs.Ends.{Ends, EndAfter}
 use Rattle.lookup.specs.Place.{Stands, PlaceAfter, EndsAt}
 use Rattle.lookup.specs.declared.Found.{Found}
 use Rattle.lookup.specs.declared.Found.the-variants.{Nothing, At}
@@ -38,8 +37,8 @@ there s i x t e = go (leb (length s) i) refl
 pub place-after : (s : Bytes) (p : ℕ) (r : Found) → PlaceAfter s p r → (x : ℕ) → r ≡ At x → (p < x) × (x ≤ length s)
 place-after s p r a x q = rw q at a
 
-pub value-after : (s : Bytes) (p e : ℕ) → endOf (length s) (read maxDepth (drop p s)) ≡ skip.End e → (p < e) × (e ≤ length s)
-value-after s p e q = let l = located s p e (read-fits maxDepth (drop p s)) q in (l .after, l .within)
+pub end-after : (s : Bytes) (p : ℕ) (r : Skip) → EndAfter s p r → (e : ℕ) → r ≡ End e → (p < e) × (e ≤ length s)
+end-after s p r a e q = rw q at a
 
 -- the value of a canonical text stands at its beginning, and nothing follows
 pub whole : (s : Bytes) → Canonical maxDepth s → (v : Json) × (here : Stands s 0 v) × (here .rest ≡ [])
@@ -62,18 +61,15 @@ module _ (s : Bytes) (p : ℕ) (v : Json) (h : Stands s p v) where
       let e : length s - length (h .rest) ≡ p + length a = omega arith in
       ap (λ (n : ℕ). drop n s) e ∙ sym (drop-drop (length a) p s) ∙ ap (λ (t : Bytes). drop (length a) t) k ∙ drop-at a (h .rest) (length a) refl
 
-  pub read-there : read maxDepth (drop p s) ≡ got v (h .rest)
-  read-there = ap (λ (t : Bytes). read maxDepth t) (h .text) ∙ complete v maxDepth (h .rest) (h .valid) (h .free)
+  -- the skip over it
+  module _ {r : Skip} (w : Ends s p r) where
+    pub skip-found : r ≡ No → ⊥
+    skip-found q =
+        let k : No ≡ End (length s - length (h .rest)) = sym q ∙ w .means v (h .rest) (h .text) (h .free) (h .valid) in
+        let z : _≡_ {A = ℕ} 0 1 = cc in omega arith
 
-  pub value-ends : (e : ℕ) → endOf (length s) (read maxDepth (drop p s)) ≡ skip.End e → e ≡ length s - length (h .rest)
-  value-ends e q =
-      let k : skip.End e ≡ skip.End (length s - length (h .rest)) = sym q ∙ ap (λ (g : Got Json). endOf (length s) g) read-there in
-      cc
-
-  pub value-found : endOf (length s) (read maxDepth (drop p s)) ≡ skip.No → ⊥
-  value-found q =
-      let k : skip.No ≡ skip.End (length s - length (h .rest)) = sym q ∙ ap (λ (g : Got Json). endOf (length s) g) read-there in
-      let z : _≡_ {A = ℕ} 0 1 = cc in omega arith
+    pub skip-is : (e : ℕ) → r ≡ End e → e ≡ length s - length (h .rest)
+    skip-is e q = let k : End e ≡ End (length s - length (h .rest)) = sym q ∙ w .means v (h .rest) (h .text) (h .free) (h .valid) in cc
 
   module _ {r : Found} (w : EndsAt s p r) where
     pub end-found : r ≡ Nothing → ⊥

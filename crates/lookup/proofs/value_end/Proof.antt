@@ -1,6 +1,6 @@
--- `value_end` meets its contract: the reader of json finds every value that stands.
+-- `value_end` meets its contract: the skip finds the end of every value that stands.
 use borrow.Author.Needs.{needs}
-use mathlib.Core.Path.{sym, ap, _∙_}
+use mathlib.Core.Path.{ap}
 use Rattle.lookup.proofs.StandsLaws as stands
 use Rattle.lookup.specs.declared.Found.the-variants.{At}
 use Rattle.lookup.proofs.value_end.Statement.{statement}
@@ -13,15 +13,16 @@ enum-told : tie.Need-enum-told
 enum-told c = search needs
 
 returns : tie.Need-returns
-returns c = record { means = λ v h. absurd (stands.value-found _ _ v h (sym (c .before .before .value .ensures) ∙ c .enum-told .given .1)); onward = tt }
+returns c = record { means = λ v h. absurd (stands.skip-found _ _ v h (c .before .before .value .ensures) (c .enum-told .given .1)); onward = tt }
 
 enum-known-e : tie.Need-enum-known-e
 enum-known-e c = search needs
 
 returns-2 : tie.Need-returns-2
 returns-2 c =
-    let q = sym (c .before .before .before .value .ensures) ∙ c .before .e .given .1 in
-    record { means = λ v h. ap At (stands.value-ends _ _ v h _ q); onward = stands.value-after _ _ _ q }
+    let w = c .before .before .before .value .ensures in
+    let q = c .before .e .given .1 in
+    record { means = λ v h. ap At (stands.skip-is _ _ v h w _ q); onward = stands.end-after _ _ _ (w .onward) _ q }
 
 pub value-end-spec : {M : Type 1} → statement M
 value-end-spec = tie.close (tie.spec value-requires enum-told returns enum-known-e returns-2)

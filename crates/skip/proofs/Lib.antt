@@ -1,0 +1,4 @@
+pub mod DigitLaws
+pub mod SkimLaws
+pub mod StepLaws
+pub mod ValueLaws
