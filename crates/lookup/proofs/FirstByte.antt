@@ -1,13 +1,12 @@
 -- The first byte of a value's text.
-use mathlib.Core.Path.{_≡_, refl, sym, ap, _∙_}
+use mathlib.Core.Path.{_≡_, refl, sym, _∙_}
 use mathlib.Core.List.{[], _∷_}
-use mathlib.Core.Bool.{Bool, true, false, cond, not, _&&_}
+use mathlib.Core.Bool.{Bool, true, false}
 use Prim.Native.Nat.{ℕ}
 use lib.Dec.{eqb}
-use borrow.Author.Tests.{ne-eqb, eqb-true}
 use Rattle.base.specs.Bytes.{Bytes, isDigit}
 use Rattle.base.proofs.TestLaws.{never, both}
-use Rattle.json.specs.Json.{Json, jnull, jtrue, jfalse, num, str, arr, obj, put, Valid, validNum, allDigits, isNil}
+use Rattle.json.specs.Json.{Json, jnull, jtrue, jfalse, num, str, arr, obj, put, Valid, validNum, allDigits}
 use Rattle.skip.proofs.DigitLaws.{digit-not, all-digits}
 use Rattle.json.proofs.Puts.{put-null, put-true, put-false, put-num, put-str, put-arr, put-obj}
 

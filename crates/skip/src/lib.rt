@@ -133,7 +133,7 @@ fn word_end(s: &[u8], at: usize, n: usize) -> usize
     at + n
 }
 
-// Just past the value at `at`, by its first byte.
+// Just past the value at `at`, by its first byte. Where no value stands there, any end after `at`.
 pub fn value(s: &[u8], at: usize) -> Skip
     ensures { λ r. ⌜ Ends (now (s .entry)) at r ⌝ }
 {

@@ -1,11 +1,11 @@
 -- `digits_end` meets its contract. The invariant: what follows the digits from `at` on follows those from `i` on.
-use mathlib.Core.Path.{_≡_, refl, _∙_}
-use Prim.Native.Nat.{_≤_, _-_}
+use mathlib.Core.Path.{_≡_, _∙_}
+use Prim.Native.Nat.{_-_}
 use native.Mathlib.Omega.{arith}
 use borrow.Author.Needs.{needs}
 use lib.ListN.{length, drop}
 use Rattle.base.proofs.ByteLaws.{digit, digit-low, digit-high}
-use Rattle.skip.specs.Skim.{DigitsEnd, Leads, pastDigits}
+use Rattle.skip.specs.Skim.{Leads, pastDigits}
 use Rattle.skip.proofs.StepLaws.{digits-spent, digits-stop, digits-on}
 use Rattle.skip.proofs.digits_end.Statement.{statement}
 use Rattle.skip.proofs.digits_end.Tie as tie

@@ -3,7 +3,6 @@ use mathlib.Core.Path.{_≡_}
 use mathlib.Core.Bool.{true}
 use Prim.Native.Nat.{_≤_, _+_, _-_}
 use native.Mathlib.Omega.{arith}
-use borrow.Author.Needs.{needs}
 use Rattle.skip.specs.Skim.{Plain}
 use Rattle.skip.proofs.StepLaws.{block-start, block-next, block-whole}
 use Rattle.skip.proofs.plain_block.Statement.{statement}
