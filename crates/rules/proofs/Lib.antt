@@ -10,8 +10,6 @@ pub mod Computing
 pub mod Cases
 pub mod StepCases
 pub mod Texts
-pub mod FileCases
-pub mod RunCases
 pub mod TableLaws
 pub mod NextLaws
 pub mod ExactlyLaws

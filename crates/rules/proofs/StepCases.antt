@@ -2,19 +2,21 @@
 -- wrong" one that such a controller fails.
 use mathlib.Core.Path.{refl}
 use mathlib.Core.List.{List, [], _∷_, map}
-use mathlib.Core.Option.{none, some}
+use mathlib.Core.Option.{Option, none, some}
 use mathlib.Core.Bool.{Bool, true, false}
 use Prim.Native.Nat.{ℕ}
 use lib.IntN.{ℤ, pos}
 use lib.ListN.{replicate}
 use Rattle.base.specs.Bytes.{Bytes, bytes}
+use Rattle.json.specs.Json.{Json, jnull, mnil, mcons}
+use Rattle.rules.specs.Take.{single}
 use Rattle.rules.specs.Records.{Role, Listed}
 use Rattle.rules.specs.State.{Root, Timestamp, Snapshot, State}
 use Rattle.rules.specs.Table.{first, absent}
 use Rattle.rules.specs.Steps.{rootTable, timestampTable, snapshotTable, targetsTable, findTable, withRoot}
 use Rattle.rules.specs.Asked.{imageTable, imageAnswer}
 use Rattle.rules.proofs.Cases.{Case, _gives_, Right, a, b, both}
-use Rattle.rules.proofs.Computing.{tables}
+use Rattle.rules.proofs.Computing.{tables, forms}
 
 -- ## Files and states: roots are signed by key a, the other files by key b
 
@@ -267,3 +269,15 @@ rotations =
 pub rotations-right : Right rotations
 unfolding tables
 rotations-right = refl
+
+-- ## A sole name, compared whole and with nothing behind it
+
+abbrev pub soleNames : List (Case (Option Json))
+soleNames =
+    single (bytes "snapshot.json") (mcons (bytes "snapshot.json") jnull mnil) gives some jnull
+    ∷ single (bytes "a") (mcons (bytes "a!") jnull mnil) gives none
+    ∷ []
+
+pub sole-names-right : Right soleNames
+unfolding forms
+sole-names-right = refl

@@ -1,0 +1,2 @@
+pub mod FileCases
+pub mod RunCases
