@@ -1,10 +1,10 @@
 -- Hex digits by cases, and one turn of a loop that undoes pairs of them.
-use mathlib.Core.Path.{_≡_}
+use mathlib.Core.Path.{_≡_, refl, sym}
 use mathlib.Core.List.{[], _∷_, _++_, append-assoc, append-nil}
-use mathlib.Core.Bool.{true, false, and-false}
+use mathlib.Core.Bool.{Bool, true, false, _&&_, and-true, and-false, and-assoc}
 use Prim.Native.Nat.{ℕ, zero, suc, _+_, _-_, _*_, _≤_, _<_}
 use native.Mathlib.Omega.{arith}
-use borrow.Author.Tests.{eq-eqb, ne-eqb, eqb-true, lt-ltb, le-ltb, ltb-true, le-leb, lt-leb}
+use borrow.Author.Tests.{eq-eqb, ne-eqb, eqb-true, ltb-true, ltb-false, le-leb, lt-leb}
 use lib.Dec.{eqb, ltb}
 use Rattle.base.proofs.TestLaws.{both}
 use lib.ListN.{length, getD, take, drop, set}
@@ -36,20 +36,42 @@ module _ (b : ℕ) where
   unfolding digitOf
   above p = simp (lt-leb _ _ p, lt-leb b 57 (omega arith), and-false)
 
+-- ## A byte that is known to be a digit
+
+module _ (b : ℕ) (h : digitOf b < 16) where
+  from-zero : 48 ≤ b
+  from-zero = go (ltb b 48) refl
+    where
+      go : (x : Bool) → ltb b 48 ≡ x → 48 ≤ b
+      go true e = let z = below b (ltb-true b 48 e) in absurd (omega arith)
+      go false e = ltb-false b 48 e
+
+  -- decimal digits come before the letters
+  pub value-decimal : b < 97 → (48 ≤ b) × (b - 48 ≡ digitOf b)
+  value-decimal l = (from-zero, go (ltb 57 b) refl)
+    where
+      go : (x : Bool) → ltb 57 b ≡ x → b - 48 ≡ digitOf b
+      go true e = let z = between b (ltb-true 57 b e) l in absurd (omega arith)
+      go false e = decimal b from-zero (ltb-false 57 b e)
+
+  pub value-letter : 97 ≤ b → b - 87 ≡ digitOf b
+  value-letter l = go (ltb 102 b) refl
+    where
+      go : (x : Bool) → ltb 102 b ≡ x → b - 87 ≡ digitOf b
+      go true e = let z = above b (ltb-true 102 b e) in absurd (omega arith)
+      go false e = letter b l (ltb-false 102 b e)
+
 -- ## Digits at places
 
-module _ (s : Bytes) (i : ℕ) where
-  pub hex-next : i < length s → digitOf (getD s i 0) ≤ 15 → allHex (drop i s) ≡ allHex (drop (i + 1) s)
+-- what was looked at before i is digits or not, and at i there is the digit d
+module _ (s : Bytes) (i : ℕ) (ok : Bool) where
+  pub hex-next : (d : ℕ) → i < length s → d ≡ digitOf (getD s i 0) → ok && allHex (drop i s) ≡ (ok && ltb d 16) && allHex (drop (i + 1) s)
   unfolding allHex
-  hex-next h p = rw (at-cons s i h, lt-ltb (digitOf (getD s i 0)) 16 (omega arith))
+  hex-next d h e = rw (at-cons s i h, ← e) (sym (and-assoc ok (ltb d 16) (allHex (drop (i + 1) s))))
 
-  pub hex-no : i < length s → 15 < digitOf (getD s i 0) → allHex (drop i s) ≡ false
+  pub hex-end : length s ≤ i → ok && allHex (drop i s) ≡ ok
   unfolding allHex
-  hex-no h p = rw (at-cons s i h, le-ltb (digitOf (getD s i 0)) 16 p)
-
-  pub hex-end : length s ≤ i → allHex (drop i s) ≡ true
-  unfolding allHex
-  hex-end h = rw (at-end s i h)
+  hex-end h = rw (at-end s i h) (and-true ok)
 
 pub hex-at : (s : Bytes) (i : ℕ) → allHex s ≡ true → i < length s → digitOf (getD s i 0) < 16
 unfolding allHex

@@ -45,6 +45,17 @@ pub fn hex_digit(b: u8) -> u8
     }
 }
 
+// The value of a byte that is a digit: one test tells a letter from a decimal digit.
+fn digit_value(b: u8) -> u8
+    requires { ⌜ digitOf b < 16 ⌝ }
+    ensures { λ r. ⌜ r ≡ digitOf b ⌝ }
+{
+    if b < 97 {
+        return b - 48;
+    }
+    b - 87
+}
+
 // The byte k places after i, 0 past the end.
 pub fn byte_after(a: &[u8], i: usize, k: usize) -> u8
     ensures { λ r. ⌜ r ≡ byteAt (now (a .entry)) (i + k) ⌝ }
@@ -72,18 +83,18 @@ pub fn same_window(a: &[u8], i: usize, b: &[u8], j: usize, n: usize) -> bool
     true
 }
 
-// Whether every byte of s is a lower-case hex digit.
+// Whether every byte of s is a lower-case hex digit. All are looked at, so that the compiler can take many at once.
 fn all_hex(s: &[u8]) -> bool
     ensures { λ r. ⌜ r ≡ allHex (now (s .entry)) ⌝ }
 {
+    let mut ok = true;
     let mut i = 0;
     while i < s.len() {
-        if 15 < hex_digit(s[i]) {
-            return false;
-        }
+        let d = hex_digit(s[i]);
+        ok = ok & (d < 16);
         i += 1;
     }
-    true
+    ok
 }
 
 // Whether s is n bytes in hex.
@@ -108,8 +119,8 @@ pub fn undo_hex(s: &[u8], out: &mut [u8]) -> bool
     }
     let mut i: usize = 0;
     while i < out.len() {
-        let hi = hex_digit(s[i * 2]);
-        let lo = hex_digit(s[i * 2 + 1]);
+        let hi = digit_value(s[i * 2]);
+        let lo = digit_value(s[i * 2 + 1]);
         out[i] = hi * 16 + lo;
         i += 1;
     }

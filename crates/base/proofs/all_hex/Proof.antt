@@ -1,19 +1,20 @@
--- `all_hex`: what is left is all hex exactly where the whole is.
+-- `all_hex`: the whole is hex exactly where what was looked at was and what is left is.
 use Prim.Native.Nat.{_≤_, _-_}
 use native.Mathlib.Omega.{arith}
 use mathlib.Core.Path.{_≡_, refl, _∙_, sym}
+use mathlib.Core.Bool.{_&&_}
 use borrow.Author.Needs.{needs}
 use lib.ListN.{length, drop}
 use Rattle.base.specs.Hex.{allHex}
-use Rattle.base.proofs.HexLaws.{hex-next, hex-no, hex-end}
+use Rattle.base.proofs.HexLaws.{hex-next, hex-end}
 use Rattle.base.proofs.all_hex.Statement.{statement}
 use Rattle.base.proofs.all_hex.Tie as tie
 
 abbrev Inv-loop : tie.InvT-loop
-Inv-loop s i₀ i = (i ≤ length s) × (allHex s ≡ allHex (drop i s))
+Inv-loop s ok₀ i₀ ok i = (i ≤ length s) × (allHex s ≡ ok && allHex (drop i s))
 
 abbrev μ-loop : tie.MeasureT-loop
-μ-loop s i₀ i = length s - i
+μ-loop s ok₀ i₀ ok i = length s - i
 
 loop-holds : tie.Need-loop-holds Inv-loop μ-loop
 loop-holds c = (omega arith, refl)
@@ -24,11 +25,6 @@ shared-slice-read-hex-digit c = omega arith
 hex-digit-requires : tie.Need-hex-digit-requires Inv-loop μ-loop
 hex-digit-requires c κs = search needs
 
-returns : tie.Need-returns Inv-loop μ-loop
-returns c =
-    let l = c .before .before .before .before .loop in
-    sym (l .inv .1 ∙ hex-no _ (l .i) (omega arith) (omega arith))
-
 add-i : tie.Need-add-i Inv-loop μ-loop
 add-i c = omega arith
 
@@ -37,13 +33,13 @@ loop-less c = omega arith
 
 loop-again : tie.Need-loop-again Inv-loop μ-loop
 loop-again c =
-    let l = c .before .before .before .before .loop in
-    (omega arith, l .inv .1 ∙ hex-next _ (l .i) (omega arith) (omega arith))
+    let l = c .before .before .before .loop in
+    (omega arith, l .inv .1 ∙ hex-next _ (l .i) (l .ok) _ (omega arith) (c .hex-digit .ensures))
 
-returns-2 : tie.Need-returns-2 Inv-loop μ-loop
-returns-2 c =
+returns : tie.Need-returns Inv-loop μ-loop
+returns c =
     let l = c .before .loop in
-    sym (l .inv .1 ∙ hex-end _ (l .i) (omega arith))
+    sym (l .inv .1 ∙ hex-end _ (l .i) (l .ok) (omega arith))
 
 pub all-hex-spec : {M : Type 1} → statement M
 all-hex-spec =
@@ -54,8 +50,7 @@ all-hex-spec =
     loop-holds
     shared-slice-read-hex-digit
     hex-digit-requires
-    returns
     add-i
     loop-less
     loop-again
-    returns-2)
+    returns)

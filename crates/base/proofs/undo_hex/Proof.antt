@@ -27,32 +27,42 @@ returns c = let n = (c .before) .is-hex .ensures in let z = not-true _ (c .if1 .
 loop-holds : tie.Need-loop-holds Inv-loop μ-loop
 loop-holds c = let e = hex-parts _ _ (sym ((c .before) .is-hex .ensures) ∙ not-false _ (c .if1 .left)) in (omega arith, refl, e .0, e .1, refl)
 
-mul-hex-digit : tie.Need-mul-hex-digit Inv-loop μ-loop
-mul-hex-digit c = omega arith
+mul-digit-value : tie.Need-mul-digit-value Inv-loop μ-loop
+mul-digit-value c = omega arith
 
-shared-slice-read-hex-digit : tie.Need-shared-slice-read-hex-digit Inv-loop μ-loop
-shared-slice-read-hex-digit c = omega arith
+shared-slice-read-digit-value : tie.Need-shared-slice-read-digit-value Inv-loop μ-loop
+shared-slice-read-digit-value c = omega arith
 
-hex-digit-requires : tie.Need-hex-digit-requires Inv-loop μ-loop
-hex-digit-requires c κs = search needs
+digit-value-requires : tie.Need-digit-value-requires Inv-loop μ-loop
+digit-value-requires c κs =
+    let l = c .before .before .loop in
+    hex-at (c .before .before .before .before .before .before .before .args .s .now) (l .i * 2) (l .inv .3) (omega arith)
 
-mul-hex-digit-2 : tie.Need-mul-hex-digit-2 Inv-loop μ-loop
-mul-hex-digit-2 c = omega arith
+mul-digit-value-2 : tie.Need-mul-digit-value-2 Inv-loop μ-loop
+mul-digit-value-2 c = omega arith
 
-add-hex-digit : tie.Need-add-hex-digit Inv-loop μ-loop
-add-hex-digit c = omega arith
+add-digit-value : tie.Need-add-digit-value Inv-loop μ-loop
+add-digit-value c = omega arith
 
-shared-slice-read-hex-digit-2 : tie.Need-shared-slice-read-hex-digit-2 Inv-loop μ-loop
-shared-slice-read-hex-digit-2 c = omega arith
+shared-slice-read-digit-value-2 : tie.Need-shared-slice-read-digit-value-2 Inv-loop μ-loop
+shared-slice-read-digit-value-2 c = omega arith
 
-hex-digit-requires-2 : tie.Need-hex-digit-requires-2 Inv-loop μ-loop
-hex-digit-requires-2 c κs = search needs
+digit-value-requires-2 : tie.Need-digit-value-requires-2 Inv-loop μ-loop
+digit-value-requires-2 c κs =
+    let l = c .before .before .before .before .loop in
+    hex-at (c .before .before .before .before .before .before .before .before .before .args .s .now) (l .i * 2 + 1) (l .inv .3) (omega arith)
 
 mul-out : tie.Need-mul-out Inv-loop μ-loop
-mul-out c = let l = (c .before .before .before .before .before) .loop in let s = (c .before .before .before .before .before .before .before .before .before .before) .args .s .now in omega (arith, hex-at s (l .i * 2) (l .inv .3) (omega arith))
+mul-out c =
+    let l = c .before .before .before .before .before .loop in
+    let s = c .before .before .before .before .before .before .before .before .before .before .args .s .now in
+    omega (arith, hex-at s (l .i * 2) (l .inv .3) (omega arith), hex-at s (l .i * 2 + 1) (l .inv .3) (omega arith))
 
 add-out : tie.Need-add-out Inv-loop μ-loop
-add-out c = let l = (c .before .before .before .before .before) .loop in let s = (c .before .before .before .before .before .before .before .before .before .before) .args .s .now in omega (arith, hex-at s (l .i * 2) (l .inv .3) (omega arith), hex-at s (l .i * 2 + 1) (l .inv .3) (omega arith))
+add-out c =
+    let l = c .before .before .before .before .before .loop in
+    let s = c .before .before .before .before .before .before .before .before .before .before .args .s .now in
+    omega (arith, hex-at s (l .i * 2) (l .inv .3) (omega arith), hex-at s (l .i * 2 + 1) (l .inv .3) (omega arith))
 
 slice-write-out : tie.Need-slice-write-out Inv-loop μ-loop
 slice-write-out c = omega arith
@@ -81,13 +91,13 @@ undo-hex-spec =
     is-hex-requires
     returns
     loop-holds
-    mul-hex-digit
-    shared-slice-read-hex-digit
-    hex-digit-requires
-    mul-hex-digit-2
-    add-hex-digit
-    shared-slice-read-hex-digit-2
-    hex-digit-requires-2
+    mul-digit-value
+    shared-slice-read-digit-value
+    digit-value-requires
+    mul-digit-value-2
+    add-digit-value
+    shared-slice-read-digit-value-2
+    digit-value-requires-2
     mul-out
     add-out
     slice-write-out

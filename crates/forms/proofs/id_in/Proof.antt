@@ -18,7 +18,7 @@ returns : tie.Need-returns
 returns c = search needs
 
 add-e : tie.Need-add-e
-add-e c = let h = quote-inside _ _ 64 (sym (c .before .byte-after .ensures) ∙ c .if1 .left) in search needs
+add-e c = let h = quote-inside _ _ _ (sym (c .before .byte-after .ensures) ∙ c .if1 .left) in search needs
 
 sub-hex32 : tie.Need-sub-hex32
 sub-hex32 c = search needs
@@ -27,7 +27,7 @@ part-hex32-start : tie.Need-part-hex32-start
 part-hex32-start c = search needs
 
 part-hex32-end : tie.Need-part-hex32-end
-part-hex32-end c = let h = quote-inside _ _ 64 (sym (c .before .byte-after .ensures) ∙ c .if1 .left) in search needs
+part-hex32-end c = let h = quote-inside _ _ _ (sym (c .before .byte-after .ensures) ∙ c .if1 .left) in search needs
 
 hex32-requires : tie.Need-hex32-requires
 hex32-requires c κs = search needs

@@ -17,7 +17,7 @@ returns : tie.Need-returns
 returns c = search needs
 
 add-e : tie.Need-add-e
-add-e c = let h = quote-inside _ _ 128 (sym (c .before .byte-after .ensures) ∙ c .if1 .left) in search needs
+add-e c = let h = quote-inside _ _ _ (sym (c .before .byte-after .ensures) ∙ c .if1 .left) in search needs
 
 sub-hex64 : tie.Need-sub-hex64
 sub-hex64 c = search needs
@@ -26,7 +26,7 @@ part-hex64-start : tie.Need-part-hex64-start
 part-hex64-start c = search needs
 
 part-hex64-end : tie.Need-part-hex64-end
-part-hex64-end c = let h = quote-inside _ _ 128 (sym (c .before .byte-after .ensures) ∙ c .if1 .left) in search needs
+part-hex64-end c = let h = quote-inside _ _ _ (sym (c .before .byte-after .ensures) ∙ c .if1 .left) in search needs
 
 hex64-requires : tie.Need-hex64-requires
 hex64-requires c κs = search needs
