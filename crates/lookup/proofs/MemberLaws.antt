@@ -14,29 +14,20 @@ use Rattle.json.specs.declared.Skip.the-variants as skip
 use Rattle.json.proofs.Puts.{put-str, put-obj, members-nil, members-cons, more-members-nil, more-members-cons}
 use Rattle.json.proofs.Complete.{complete}
 use Rattle.json.proofs.Rest.{located, chars-fits, refused}
-use Rattle.lookup.specs.Place.{Stands}
+use Rattle.lookup.specs.Place.{Stands, EndsAt}
+use Rattle.lookup.specs.declared.Found.{Found}
+use Rattle.lookup.specs.declared.Found.the-variants.{Nothing, At}
 use Rattle.lookup.specs.Walk.{closes, opens, Opens, Follows, MemberAt, MemberAfter, NameAt, MembersLeft, members-end, members-at, MembersOf}
 use Rattle.lookup.specs.declared.Element.{Element}
 use Rattle.lookup.specs.declared.Element.the-variants as element
 use Rattle.lookup.specs.declared.Member.{Member}
 use Rattle.lookup.specs.declared.Member.the-variants as member
 use Rattle.json.proofs.Deeper.{deeper}
-use Rattle.lookup.proofs.StandsLaws.{there, rest-at}
+use Rattle.lookup.proofs.StandsLaws.{there, rest-at, end-found, end-is, place-after}
 use Rattle.lookup.proofs.ItemLaws.{closes-end, closes-on, opens-on, opens-no}
 use Rattle.lookup.proofs.StringLaws.{raw-bytes}
 
 -- ## One member
-
--- a name is read up to its closing quote
-name-read : (n r : Bytes) → ValidStr n → NoDigit r → readStr (putBytes n (34 ∷ r)) ≡ got n r
-unfolding Valid read kindOf
-name-read n r g f =
-    let k : also str (readStr (putBytes n (34 ∷ r))) ≡ got (str n) r = rw put-str at (complete (str n) 0 r g f) in
-    go (readStr (putBytes n (34 ∷ r))) k
-  where
-    go : (x : Got Bytes) → also str x ≡ got (str n) r → x ≡ got n r
-    go bad e = let z : _≡_ {A = ℕ} 0 1 = cc in absurd (omega arith)
-    go (got a q) e = cc
 
 -- the text of the members from one on
 abbrev MemberText : Bytes → Json → Members → Bytes → Bytes
@@ -46,30 +37,28 @@ module _ (s : Bytes) (i : ℕ) (n : Bytes) (v : Json) (ms : Members) (rest : Byt
   pub quote-cut : length s ≤ i → ⊥
   quote-cut l = let k = there s i 34 _ t .0 in omega arith
 
-  named : readStr (drop (i + 1) s) ≡ got n (58 ∷ put v (putMoreMembers ms (125 ∷ rest)))
+  -- the name is a string that stands before its colon
+  pub name-stands : Stands s i (str n)
   unfolding Valid
-  named = ap (λ (x : Bytes). readStr x) (there s i 34 _ t .2) ∙ name-read n _ (g .0) refl
+  name-stands = record { rest = 58 ∷ put v (putMoreMembers ms (125 ∷ rest)); text = t ∙ sym (put-str n _); free = refl; valid = g .0 }
 
-  pub name-found : endOf (length s) (readStr (drop (i + 1) s)) ≡ skip.No → ⊥
-  name-found q =
-      let k : bad ≡ got n (58 ∷ put v (putMoreMembers ms (125 ∷ rest))) = sym (refused (length s) (readStr (drop (i + 1) s)) q) ∙ named in
-      let z : _≡_ {A = ℕ} 0 1 = cc in omega arith
+  module _ (r : Found) (w : EndsAt s i r) where
+    pub name-found : r ≡ Nothing → ⊥
+    name-found q = end-found s i (str n) name-stands w q
 
-  module _ (e : ℕ) (q : endOf (length s) (readStr (drop (i + 1) s)) ≡ skip.End e) where
-    colon : (e < length s) × (getD s e 0 ≡ 58) × (drop (e + 1) s ≡ put v (putMoreMembers ms (125 ∷ rest)))
-    colon =
-        let l = located s (i + 1) e (chars-fits (drop (i + 1) s) 0 0 0) q in
-        let k : got (l .value) (drop e s) ≡ got n (58 ∷ put v (putMoreMembers ms (125 ∷ rest))) = sym (l .is) ∙ named in
-        there s e 58 _ (cc)
+    module _ (e : ℕ) (q : r ≡ At e) where
+      colon : (e < length s) × (getD s e 0 ≡ 58) × (drop (e + 1) s ≡ put v (putMoreMembers ms (125 ∷ rest)))
+      unfolding name-stands
+      colon = there s e 58 _ (ap (λ (m : ℕ). drop m s) (end-is s i (str n) name-stands w e q) ∙ rest-at s i (str n) name-stands)
 
-    pub colon-cut : length s ≤ e → ⊥
-    colon-cut l = let k = colon .0 in omega arith
+      pub colon-cut : length s ≤ e → ⊥
+      colon-cut l = let k = colon .0 in omega arith
 
-    pub member-there : MembersLeft s (member.At (i + 1) (e + 1)) (mcons n v ms)
-    member-there = members-at rest (there s i 34 _ t .2 ∙ ap (λ (x : Bytes). putBytes n (34 ∷ 58 ∷ x)) (sym (colon .2))) (colon .2) g
+      pub member-there : MembersLeft s (member.At (i + 1) (e + 1)) (mcons n v ms)
+      member-there = members-at rest (there s i 34 _ t .2 ∙ ap (λ (x : Bytes). putBytes n (34 ∷ 58 ∷ x)) (sym (colon .2))) (colon .2) g
 
-pub name-after : (s : Bytes) (i e : ℕ) → endOf (length s) (readStr (drop (i + 1) s)) ≡ skip.End e → e < length s → MemberAfter s i (member.At (i + 1) (e + 1))
-name-after s i e q h = let k = located s (i + 1) e (chars-fits (drop (i + 1) s) 0 0 0) q .after in (omega arith, omega arith, omega arith)
+pub name-after : (s : Bytes) (i : ℕ) (r : Found) → EndsAt s i r → (e : ℕ) → r ≡ At e → e < length s → MemberAfter s i (member.At (i + 1) (e + 1))
+name-after s i r w e q h = let k = place-after s i r (w .onward) e q in (omega arith, omega (arith, k .0), omega arith)
 
 -- a member that was found
 pub member-after : (s : Bytes) (p : ℕ) (r : Member) → MemberAfter s p r → (i j : ℕ) → r ≡ member.At i j → (p < i) × (i < j) × (j ≤ length s)

@@ -110,11 +110,11 @@ fn member_at(s: &[u8], i: usize) -> Member
         return Member::NoObject;
     }
     let name = i + 1;
-    match json::string(s, name) {
-        Skip::No => {
+    match value_end(s, i) {
+        Found::Nothing => {
             return Member::NoObject;
         }
-        Skip::End(e) => {
+        Found::At(e) => {
             if s.len() <= e {
                 return Member::NoObject;
             }
