@@ -1,6 +1,6 @@
-//! What is measured, in a form that both sides have.
+//! What is measured, in a form that all sides have.
 
-use ordinary::number_of;
+use common::{Forms, State, number_of};
 
 /// A side of the comparison: its calls answer by 01's numbers.
 pub trait Client: Clone {
@@ -55,17 +55,17 @@ pub struct Versions {
     pub start: i64,
 }
 
-impl Client for ordinary::State {
+impl<F: Forms + Clone> Client for State<F> {
     fn blank() -> Self {
-        ordinary::State::default()
+        State::default()
     }
 
     fn is_canonical(text: &[u8]) -> bool {
-        ordinary::is_canonical(text)
+        F::is_canonical(text)
     }
 
     fn install(file: &[u8], row: &[u8], start: i64) -> (u8, Self) {
-        let result = ordinary::State::install(file, row, start);
+        let result = State::install(file, row, start);
         (number_of(&result), result.unwrap_or_default())
     }
 

@@ -1,4 +1,4 @@
-//! Measures the static library against ordinary Rust, on the same inputs, by turns.
+//! Measures the static library against plain Rust, written in two ways, on the same inputs, by turns.
 
 mod calls;
 mod client;
@@ -32,19 +32,25 @@ fn main() -> ExitCode {
         .filter(|work| options.picks(&work.name))
         .collect();
     match options.play {
-        Some((Side::Rattle, times)) => wanted.iter().for_each(|work| play_times::<rattle::State>(work, times)),
-        Some((Side::Ordinary, times)) => wanted
-            .iter()
-            .for_each(|work| play_times::<ordinary::State>(work, times)),
+        Some((side, times)) => wanted.iter().for_each(|work| play_on(side, work, times)),
         None => match measured(wanted) {
             Ok(lines) => print!("{}", report::written(&lines, options.markdown)),
             Err(difference) => {
-                eprintln!("bench: the library and ordinary differ: {difference}");
+                eprintln!("bench: the sides differ: {difference}");
                 return ExitCode::FAILURE;
             }
         },
     }
     ExitCode::SUCCESS
+}
+
+/// Plays the calls so many times on one side alone.
+fn play_on(side: Side, work: &Work, times: usize) {
+    match side {
+        Side::Rattle => play_times::<rattle::State>(work, times),
+        Side::Ordinary => play_times::<ordinary::State>(work, times),
+        Side::OnePass => play_times::<onepass::State>(work, times),
+    }
 }
 
 /// The lines after all passes, or where the sides differ.

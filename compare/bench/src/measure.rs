@@ -1,4 +1,4 @@
-//! Measures lines: both sides by turns, the median of many runs.
+//! Measures lines: the three sides by turns, the median of many runs.
 //!
 //! The runs of a line are spread over passes through all lines, so that what else the machine does for a while touches a
 //! few runs of every line and not all runs of one. Each run goes to the next shelf.
@@ -8,13 +8,14 @@ use std::time::{Duration, Instant};
 
 use crate::calls::play;
 use crate::client::Client;
+use crate::options::Side;
 use crate::rattle;
 use crate::work::{Play, Work};
 
 /// How often all lines are gone through.
 pub const PASSES: usize = 25;
 
-/// The runs of a line in one pass take about this long, on both sides together.
+/// The runs of a line in one pass take about this long, on all sides together.
 const PASS: Duration = Duration::from_millis(20);
 
 /// At least and at most so many runs of each side in one pass.
@@ -27,12 +28,24 @@ const RUN: Duration = Duration::from_micros(20);
 /// At most so many shelves make a run, so that their states stay in the processor's caches.
 const MOST_SHELVES: u128 = 16;
 
+/// The orders in which the sides come, one after the other: each side is as often first as second or third, and as often
+/// right behind the one as right behind the other.
+const ORDERS: [[Side; 3]; 6] = [
+    [Side::Rattle, Side::Ordinary, Side::OnePass],
+    [Side::OnePass, Side::Ordinary, Side::Rattle],
+    [Side::Ordinary, Side::OnePass, Side::Rattle],
+    [Side::Rattle, Side::OnePass, Side::Ordinary],
+    [Side::OnePass, Side::Rattle, Side::Ordinary],
+    [Side::Ordinary, Side::Rattle, Side::OnePass],
+];
+
 /// A line, with what was measured of it so far.
 pub struct Line {
     /// What is measured.
     pub work: Work,
-    rattle: Side<rattle::State>,
-    ordinary: Side<ordinary::State>,
+    rattle: Runs<rattle::State>,
+    ordinary: Runs<ordinary::State>,
+    one_pass: Runs<onepass::State>,
     /// How many shelves a run goes to.
     shelves: usize,
     /// How many runs a pass has.
@@ -42,45 +55,56 @@ pub struct Line {
 }
 
 impl Line {
-    /// Compares the answers of both sides, and finds out how long a run takes. Gives the difference if there is one.
+    /// Compares the answers of all sides, and finds out how long a run takes. Gives the difference if there is one.
     pub fn new(work: Work) -> Result<Line, String> {
         for shelf in &work.shelves {
             check(shelf).map_err(|difference| format!("{}: {difference}", work.name))?;
         }
-        let rattle = Side::new(&work);
-        let ordinary = Side::new(&work);
-        let shortest = |part| {
-            let mut once = |shelf| rattle.run(&work, part, shelf, 1) + ordinary.run(&work, part, shelf, 1);
-            (0..10).map(&mut once).min().unwrap_or_default()
-        };
-        let both: Duration = (0..work.shelves[0].parts.len()).map(shortest).sum();
-        let both = both.as_nanos().max(1);
-        let shelves = (2 * RUN.as_nanos() / both + 1).min(MOST_SHELVES) as usize;
-        let runs = (PASS.as_nanos() / both) as usize / shelves;
-        Ok(Line {
+        let mut line = Line {
+            rattle: Runs::new(&work),
+            ordinary: Runs::new(&work),
+            one_pass: Runs::new(&work),
             work,
-            rattle,
-            ordinary,
-            shelves,
-            runs: runs.clamp(FEWEST_RUNS, MOST_RUNS),
+            shelves: 1,
+            runs: 1,
             done: 0,
-        })
+        };
+        let all = line.shortest().as_nanos().max(1);
+        line.shelves = (3 * RUN.as_nanos() / all + 1).min(MOST_SHELVES) as usize;
+        let runs = (PASS.as_nanos() / all) as usize / line.shelves;
+        line.runs = runs.clamp(FEWEST_RUNS, MOST_RUNS);
+        Ok(line)
     }
 
-    /// Measures both sides by turns, each as often first as second.
+    /// About how long the calls on one shelf take, on all sides together.
+    fn shortest(&self) -> Duration {
+        let once = |part, shelf| {
+            self.rattle.run(&self.work, part, shelf, 1)
+                + self.ordinary.run(&self.work, part, shelf, 1)
+                + self.one_pass.run(&self.work, part, shelf, 1)
+        };
+        let shortest = |part| (0..10).map(|shelf| once(part, shelf)).min().unwrap_or_default();
+        (0..self.rattle.times.len()).map(shortest).sum()
+    }
+
+    /// Measures the sides by turns.
     pub fn pass(&mut self) {
         for _ in 0..self.runs {
             let first = self.done * self.shelves;
             for part in 0..self.rattle.times.len() {
-                if self.done.is_multiple_of(2) {
-                    self.rattle.add_run(&self.work, part, first, self.shelves);
-                    self.ordinary.add_run(&self.work, part, first, self.shelves);
-                } else {
-                    self.ordinary.add_run(&self.work, part, first, self.shelves);
-                    self.rattle.add_run(&self.work, part, first, self.shelves);
+                for side in ORDERS[self.done % ORDERS.len()] {
+                    self.add_run(side, part, first);
                 }
             }
             self.done += 1;
+        }
+    }
+
+    fn add_run(&mut self, side: Side, part: usize, first: usize) {
+        match side {
+            Side::Rattle => self.rattle.add_run(&self.work, part, first, self.shelves),
+            Side::Ordinary => self.ordinary.add_run(&self.work, part, first, self.shelves),
+            Side::OnePass => self.one_pass.add_run(&self.work, part, first, self.shelves),
         }
     }
 
@@ -89,6 +113,7 @@ impl Line {
         Times {
             rattle: self.rattle.time() / self.shelves as f64,
             ordinary: self.ordinary.time() / self.shelves as f64,
+            one_pass: self.one_pass.time() / self.shelves as f64,
         }
     }
 }
@@ -97,37 +122,32 @@ impl Line {
 pub struct Times {
     /// The library's.
     pub rattle: f64,
-    /// The ordinary crate's.
+    /// That of plain Rust by way of a tree.
     pub ordinary: f64,
-}
-
-impl Times {
-    /// How many times the ordinary crate's time the library takes.
-    pub fn ratio(&self) -> f64 {
-        self.rattle / self.ordinary
-    }
+    /// That of plain Rust in one pass.
+    pub one_pass: f64,
 }
 
 /// Plays the calls so many times on one side alone.
 pub fn play_times<C: Client>(work: &Work, times: usize) {
-    let side = Side::<C>::new(work);
+    let runs = Runs::<C>::new(work);
     for shelf in 0..times {
-        for part in 0..side.times.len() {
-            side.run(work, part, shelf, 1);
+        for part in 0..runs.times.len() {
+            runs.run(work, part, shelf, 1);
         }
     }
 }
 
-/// One side of a line.
-struct Side<C> {
+/// The runs of a line on one side.
+struct Runs<C> {
     /// The state on each shelf before the calls.
     states: Vec<C>,
     /// The time of each run, for each part.
     times: Vec<Vec<Duration>>,
 }
 
-impl<C: Client> Side<C> {
-    fn new(work: &Work) -> Side<C> {
+impl<C: Client> Runs<C> {
+    fn new(work: &Work) -> Runs<C> {
         let state_before = |shelf: &Play| {
             let mut state = C::blank();
             for call in &shelf.before {
@@ -135,7 +155,7 @@ impl<C: Client> Side<C> {
             }
             state
         };
-        Side {
+        Runs {
             states: work.shelves.iter().map(state_before).collect(),
             times: vec![Vec::new(); work.shelves[0].parts.len()],
         }
@@ -176,25 +196,39 @@ fn median(times: &[Duration]) -> Duration {
     times[times.len() / 2]
 }
 
-/// Both sides have to give the same answers, hold the same versions, and accept everything.
+/// All sides have to give the same answers, hold the same versions, and accept everything.
 fn check(shelf: &Play) -> Result<(), String> {
-    let (mut rattle, mut ordinary) = (rattle::State::blank(), ordinary::State::blank());
+    let mut rattle = rattle::State::blank();
+    let mut ordinary = ordinary::State::blank();
+    let mut one_pass = onepass::State::blank();
     for (place, call) in shelf.calls().enumerate() {
-        let (one, other) = (play(&mut rattle, call), play(&mut ordinary, call));
-        if one != other || one.answer != 0 {
-            return Err(format!("call {place}: {one:?} and {other:?}"));
+        let answers = [
+            play(&mut rattle, call),
+            play(&mut ordinary, call),
+            play(&mut one_pass, call),
+        ];
+        if !all_equal(&answers) || answers[0].answer != 0 {
+            return Err(format!("call {place}: {answers:?}"));
         }
-        let (one, other) = (rattle.versions(), Client::versions(&ordinary));
-        if one != other {
-            return Err(format!("after call {place}: {one:?} and {other:?}"));
+        let versions = [
+            Client::versions(&rattle),
+            Client::versions(&ordinary),
+            Client::versions(&one_pass),
+        ];
+        if !all_equal(&versions) {
+            return Err(format!("after call {place}: {versions:?}"));
         }
     }
     Ok(())
 }
 
+fn all_equal<T: PartialEq>(values: &[T]) -> bool {
+    values.windows(2).all(|pair| pair[0] == pair[1])
+}
+
 #[cfg(test)]
 mod tests {
-    use super::{Line, check, median};
+    use super::{Line, ORDERS, check, median};
     use crate::calls::Call;
     use crate::work::{self, Play};
     use std::time::Duration;
@@ -210,19 +244,42 @@ mod tests {
     }
 
     #[test]
-    fn both_sides_agree_on_every_line_and_are_measured() {
+    fn the_sides_agree_on_every_line_and_are_measured() {
         for work in work::all() {
             let parts = work.shelves[0].parts.len();
             let mut line = Line::new(work).unwrap();
             line.runs = 1;
             line.pass();
             assert!(line.rattle.times.iter().all(|times| times.len() == 1) && line.rattle.times.len() == parts);
-            assert!(
-                line.times().rattle > 0.0 && line.times().ordinary > 0.0,
-                "{}",
-                line.work.name
-            );
+            let times = line.times();
+            for time in [times.rattle, times.ordinary, times.one_pass] {
+                assert!(time > 0.0, "{}", line.work.name);
+            }
         }
+    }
+
+    #[test]
+    fn no_side_is_favoured_by_the_orders() {
+        let [one, other, third] = ORDERS[0];
+        for side in [one, other, third] {
+            for place in 0..3 {
+                assert_eq!(ORDERS.iter().filter(|order| order[place] == side).count(), 2);
+            }
+        }
+        let pairs = || ORDERS.iter().flat_map(|order| order.windows(2));
+        for (before, behind) in [
+            (one, other),
+            (other, one),
+            (one, third),
+            (third, one),
+            (other, third),
+            (third, other),
+        ] {
+            assert_eq!(pairs().filter(|pair| *pair == [before, behind]).count(), 2);
+        }
+        // So each shelf is played in every order.
+        let shelves = work::all()[0].shelves.len();
+        assert!(!shelves.is_multiple_of(2) && !shelves.is_multiple_of(3));
     }
 
     #[test]

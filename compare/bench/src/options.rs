@@ -3,7 +3,7 @@
 /// How the words are to be used.
 pub const USAGE: &str = "\
 bench [--markdown] [--only WORDS]
-bench --play rattle|ordinary TIMES [--only WORDS]
+bench --play rattle|ordinary|onepass TIMES [--only WORDS]
 
   --markdown   prints the tables as markdown
   --only       only the lines whose name contains the words
@@ -14,8 +14,10 @@ bench --play rattle|ordinary TIMES [--only WORDS]
 pub enum Side {
     /// The library.
     Rattle,
-    /// The ordinary crate.
+    /// Plain Rust, by way of a tree.
     Ordinary,
+    /// Plain Rust, in one pass.
+    OnePass,
 }
 
 /// What was asked for.
@@ -56,6 +58,7 @@ fn side(word: &str) -> Option<Side> {
     match word {
         "rattle" => Some(Side::Rattle),
         "ordinary" => Some(Side::Ordinary),
+        "onepass" => Some(Side::OnePass),
         _ => None,
     }
 }
@@ -78,6 +81,7 @@ mod tests {
     #[test]
     fn one_side_alone() {
         assert_eq!(read("--play ordinary 7").unwrap().play, Some((Side::Ordinary, 7)));
+        assert_eq!(read("--play onepass 7").unwrap().play, Some((Side::OnePass, 7)));
         for broken in [
             "--play",
             "--play paper 7",

@@ -28,11 +28,53 @@ pub fn written(lines: &[Line], markdown: bool) -> String {
     written
 }
 
-const TIMES_HEAD: Cells<&str> = ["what", "bytes", "Rattle, us", "ordinary, us", "ratio"];
-const GROWTH_HEAD: Cells<&str> = ["what", "bytes", "Rattle, ns/byte", "ordinary, ns/byte", "ratio"];
+const TIMES_HEAD: Cells<&str> = [
+    "what",
+    "bytes",
+    "Rattle, us",
+    "ordinary, us",
+    "ratio",
+    "one pass, us",
+    "ratio",
+];
+const GROWTH_HEAD: Cells<&str> = [
+    "what",
+    "bytes",
+    "Rattle, ns/byte",
+    "ordinary, ns/byte",
+    "ratio",
+    "one pass, ns/byte",
+    "ratio",
+];
 
 /// What stands in a line of a table.
-type Cells<T> = [T; 5];
+type Cells<T> = [T; COLUMNS];
+const COLUMNS: usize = 7;
+
+/// What the library is measured against.
+#[derive(Clone, Copy)]
+enum Baseline {
+    Ordinary,
+    OnePass,
+}
+
+impl Baseline {
+    const ALL: [Baseline; 2] = [Baseline::Ordinary, Baseline::OnePass];
+
+    fn name(self) -> &'static str {
+        match self {
+            Baseline::Ordinary => "ordinary",
+            Baseline::OnePass => "one pass",
+        }
+    }
+
+    fn time(self, times: &Times) -> f64 {
+        match self {
+            Baseline::Ordinary => times.ordinary,
+            Baseline::OnePass => times.one_pass,
+        }
+    }
+}
 
 /// A line of a table before it is written.
 struct Row {
@@ -64,13 +106,20 @@ impl Row {
             self.bytes.to_string(),
             time(self.times.rattle),
             time(self.times.ordinary),
-            format!("{:.2}", self.times.ratio()),
+            format!("{:.2}", self.ratio(Baseline::Ordinary)),
+            time(self.times.one_pass),
+            format!("{:.2}", self.ratio(Baseline::OnePass)),
         ]
     }
 
+    /// How many times the baseline's time the library takes.
+    fn ratio(&self, baseline: Baseline) -> f64 {
+        self.times.rattle / baseline.time(&self.times)
+    }
+
     /// The name with the ratio.
-    fn named(&self) -> String {
-        format!("{} ({:.2})", self.name, self.times.ratio())
+    fn named(&self, baseline: Baseline) -> String {
+        format!("{} ({:.2})", self.name, self.ratio(baseline))
     }
 }
 
@@ -82,41 +131,55 @@ fn per_byte(micros: f64, bytes: usize) -> f64 {
 /// What the tables say, a sentence each.
 fn verdicts(times: &[Row], growth: &[Row]) -> Vec<String> {
     let mut verdicts = Vec::new();
-    for largest in growth.chunk_by(|one, other| one.name == other.name) {
-        verdicts.extend(growth_verdict(largest));
+    for sizes in growth.chunk_by(|one, other| one.name == other.name) {
+        verdicts.extend(growth_verdict(sizes));
     }
-    for cycle in times.iter().filter(|row| row.name.starts_with("whole cycle")) {
-        let said = if cycle.times.ratio() <= 1.0 {
-            "at or below"
-        } else {
-            "above"
-        };
-        verdicts.push(format!("{said} 1.0: {}", cycle.named()));
+    for baseline in Baseline::ALL {
+        let said = cycle_verdicts(times, baseline).chain([high_verdict(times, baseline)]);
+        verdicts.extend(said.map(|said| format!("against {}, {said}", baseline.name())));
     }
-    let high: Vec<String> = times
-        .iter()
-        .filter(|row| row.times.ratio() > HIGH)
-        .map(Row::named)
-        .collect();
-    let high = if high.is_empty() {
-        "no line".to_string()
-    } else {
-        high.join("; ")
-    };
-    verdicts.push(format!("above {HIGH}: {high}"));
     verdicts
 }
 
-/// Whether the library's time is linear in the size of the file.
+/// Whether whole cycles take the library no longer than the baseline.
+fn cycle_verdicts(times: &[Row], baseline: Baseline) -> impl Iterator<Item = String> {
+    let cycles = times.iter().filter(|row| row.name.starts_with("whole cycle"));
+    cycles.map(move |cycle| {
+        let is_low = cycle.ratio(baseline) <= 1.0;
+        let said = if is_low { "at or below" } else { "above" };
+        format!("{said} 1.0: {}", cycle.named(baseline))
+    })
+}
+
+/// The lines that are high.
+fn high_verdict(times: &[Row], baseline: Baseline) -> String {
+    let high = times.iter().filter(|row| row.ratio(baseline) > HIGH);
+    let high: Vec<String> = high.map(|row| row.named(baseline)).collect();
+    if high.is_empty() {
+        format!("above {HIGH}: no line")
+    } else {
+        format!("above {HIGH}: {}", high.join("; "))
+    }
+}
+
+/// Whether the library's time is linear in the size of the file; and the growth of the baselines' times.
 fn growth_verdict(sizes: &[Row]) -> Option<String> {
     let compared = sizes.iter().find(|row| row.bytes == COMPARED)?;
     let largest = sizes.last()?;
-    let time_per_byte = |row: &Row| per_byte(row.times.rattle, row.bytes);
-    let growth = time_per_byte(largest) / time_per_byte(compared);
+    let growth_of = |time: &dyn Fn(&Times) -> f64| {
+        per_byte(time(&largest.times), largest.bytes) / per_byte(time(&compared.times), compared.bytes)
+    };
+    let growth = growth_of(&|times| times.rattle);
     let said = if growth <= LINEAR { "linear" } else { "NOT linear" };
+    let others = Baseline::ALL.map(|baseline| {
+        let growth = growth_of(&|times| baseline.time(times));
+        format!("{} {growth:.2}", baseline.name())
+    });
     Some(format!(
-        "{said}: {} (a byte of {} takes {growth:.2} times as long as one of {COMPARED})",
-        largest.name, largest.bytes
+        "{said}: {} (a byte of {} takes {growth:.2} times as long as one of {COMPARED}; {})",
+        largest.name,
+        largest.bytes,
+        others.join(", ")
     ))
 }
 
@@ -127,7 +190,8 @@ fn table_written(head: Cells<&str>, rows: impl Iterator<Item = Cells<String>>, m
     if all.len() == 1 {
         return String::new();
     }
-    let widths: [usize; 5] = std::array::from_fn(|column| all.iter().map(|row| row[column].len()).max().unwrap_or(0));
+    let widths: [usize; COLUMNS] =
+        std::array::from_fn(|column| all.iter().map(|row| row[column].len()).max().unwrap_or(0));
     let mut written: Vec<String> = all.iter().map(|row| row_written(row, &widths, markdown)).collect();
     if markdown {
         written.insert(1, rule(&widths));
@@ -135,7 +199,7 @@ fn table_written(head: Cells<&str>, rows: impl Iterator<Item = Cells<String>>, m
     written.concat() + "\n"
 }
 
-fn row_written(row: &Cells<String>, widths: &[usize; 5], markdown: bool) -> String {
+fn row_written(row: &Cells<String>, widths: &[usize; COLUMNS], markdown: bool) -> String {
     let cell = |(word, width): (&String, &usize)| format!("{word:>width$}");
     let mut cells: Vec<String> = row.iter().zip(widths).map(cell).collect();
     cells[0] = format!("{:<width$}", row[0], width = widths[0]);
@@ -147,7 +211,7 @@ fn row_written(row: &Cells<String>, widths: &[usize; 5], markdown: bool) -> Stri
 }
 
 /// The line below a markdown table's head.
-fn rule(widths: &[usize; 5]) -> String {
+fn rule(widths: &[usize; COLUMNS]) -> String {
     let [first, others @ ..] = widths;
     let others: String = others
         .iter()
@@ -160,64 +224,76 @@ fn rule(widths: &[usize; 5]) -> String {
 mod tests {
     use super::{Row, TIMES_HEAD, Times, table_written, verdicts};
 
-    fn row(name: &str, bytes: usize, rattle: f64, ordinary: f64) -> Row {
+    fn row(name: &str, bytes: usize, rattle: f64, ordinary: f64, one_pass: f64) -> Row {
         Row {
             name: name.to_string(),
             bytes,
-            times: Times { rattle, ordinary },
+            times: Times {
+                rattle,
+                ordinary,
+                one_pass,
+            },
         }
     }
 
     #[test]
-    fn high_lines_and_cycles_are_named() {
+    fn high_lines_and_cycles_are_named_for_each_baseline() {
         let times = [
-            row("find", 8, 3.0, 2.0),
-            row("root", 8, 3.2, 2.0),
-            row("whole cycle: a", 8, 2.0, 2.0),
-            row("whole cycle: b", 8, 2.2, 2.0),
+            row("find", 8, 3.0, 2.0, 1.0),
+            row("root", 8, 3.2, 2.0, 1.0),
+            row("whole cycle: a", 8, 2.0, 2.0, 2.0),
+            row("whole cycle: b", 8, 2.2, 2.0, 2.2),
         ];
         assert_eq!(
             verdicts(&times, &[]),
             [
-                "at or below 1.0: whole cycle: a (1.00)",
-                "above 1.0: whole cycle: b (1.10)",
-                "above 1.5: root (1.60)"
+                "against ordinary, at or below 1.0: whole cycle: a (1.00)",
+                "against ordinary, above 1.0: whole cycle: b (1.10)",
+                "against ordinary, above 1.5: root (1.60)",
+                "against one pass, at or below 1.0: whole cycle: a (1.00)",
+                "against one pass, at or below 1.0: whole cycle: b (1.00)",
+                "against one pass, above 1.5: find (3.00); root (3.20)",
             ]
         );
-        assert_eq!(verdicts(&[], &[]), ["above 1.5: no line"]);
+        assert_eq!(verdicts(&[], &[])[0], "against ordinary, above 1.5: no line");
     }
 
     #[test]
     fn growth_is_judged_by_the_library_alone() {
         let growth = [
-            row("one", 4_096, 4.096, 9.0),
-            row("one", 32_768, 1.4 * 32.768, 999.0),
-            row("other", 4_096, 4.096, 9.0),
-            row("other", 32_768, 1.6 * 32.768, 9.0),
+            row("one", 4_096, 4.096, 4.096, 4.096),
+            row("one", 32_768, 1.4 * 32.768, 9.0 * 32.768, 32.768),
+            row("other", 4_096, 4.096, 4.096, 4.096),
+            row("other", 32_768, 1.6 * 32.768, 32.768, 2.0 * 32.768),
         ];
         let said = verdicts(&[], &growth);
         assert_eq!(
             said[0],
-            "linear: one (a byte of 32768 takes 1.40 times as long as one of 4096)"
+            "linear: one (a byte of 32768 takes 1.40 times as long as one of 4096; ordinary 9.00, one pass 1.00)"
         );
         assert_eq!(
             said[1],
-            "NOT linear: other (a byte of 32768 takes 1.60 times as long as one of 4096)"
+            "NOT linear: other (a byte of 32768 takes 1.60 times as long as one of 4096; ordinary 1.00, one pass 2.00)"
         );
     }
 
     #[test]
     fn tables_for_people_and_as_markdown() {
-        let rows = || [row("find: x", 32_768, 12.5, 10.0)].into_iter().map(|row| row.cells());
+        let rows = || {
+            [row("find: x", 32_768, 12.5, 10.0, 5.0)]
+                .into_iter()
+                .map(|row| row.cells())
+        };
         assert_eq!(
             table_written(TIMES_HEAD, rows(), false),
-            "what     bytes  Rattle, us  ordinary, us  ratio\nfind: x  32768       12.50         10.00   1.25\n\n"
+            "what     bytes  Rattle, us  ordinary, us  ratio  one pass, us  ratio\n\
+             find: x  32768       12.50         10.00   1.25          5.00   2.50\n\n"
         );
         assert_eq!(
             table_written(TIMES_HEAD, rows(), true),
-            "| what    | bytes | Rattle, us | ordinary, us | ratio |\n\
-             |---------|------:|-----------:|-------------:|------:|\n\
-             | find: x | 32768 |      12.50 |        10.00 |  1.25 |\n\n"
+            "| what    | bytes | Rattle, us | ordinary, us | ratio | one pass, us | ratio |\n\
+             |---------|------:|-----------:|-------------:|------:|-------------:|------:|\n\
+             | find: x | 32768 |      12.50 |        10.00 |  1.25 |         5.00 |  2.50 |\n\n"
         );
     }
 }

@@ -6,8 +6,8 @@ use crate::calls::Call;
 use crate::inputs::{self, LARGE, MIDDLE, Release, Size};
 
 /// How many shelves a line is measured on: so many that the processor's branch prediction does not learn the files by
-/// heart, and an odd number, so that each side comes first on each of them.
-const SHELVES: usize = 9;
+/// heart, and without a common divisor with the number of orders of the sides, so that each shelf is played in every order.
+const SHELVES: usize = 11;
 
 /// One line of a table.
 pub struct Work {

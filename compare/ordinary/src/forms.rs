@@ -1,547 +1,246 @@
-//! "Forms" (01): what each of the four files says, read in one pass over its text (refusals 1 to 4).
+//! "Forms" (01): what each of the four files says, taken from the tree of its text (refusals 1 to 4).
 
-use std::ops::RangeInclusive;
+use common::Refusal;
+use common::date;
+use common::hex::{self, Id};
+use common::records::{
+    Header, Key, LENGTHS, Listed, MAX_ENTRIES, MAX_FILE, MAX_KEYS, MAX_NAMES, MAX_PATH, MAX_TARGETS, Name, Role, Root,
+    Signed, Snapshot, Target, Targets, Timestamp, VERSIONS,
+};
+use common::refusal::ensure;
+use common::text::Text;
 
-use crate::date;
-use crate::hex::{self, Id};
-use crate::refusal::Refusal;
-use crate::text::{self, Fault, Reader, Text, is_canonical};
-
-/// "file longer than 32,768 bytes"
-const MAX_FILE: usize = 32_768;
-
-/// "at most 16 entries"
-const MAX_ENTRIES: usize = 16;
-
-/// "version" 1 to 2,147,483,647
-const VERSIONS: RangeInclusive<u64> = 1..=2_147_483_647;
-
-/// "length" (0 to 4,294,967,295)
-const LENGTHS: RangeInclusive<u64> = 0..=4_294_967_295;
-
-/// "keys", 1 to 16; so a set of them is a u16.
-const MAX_KEYS: usize = 16;
-
-/// "1 to 32 names of 1 to 32 bytes"
-const MAX_NAMES: usize = 32;
-const MAX_NAME: usize = 32;
-
-/// "0 to 256 names of 1 to 128 bytes"
-const MAX_TARGETS: usize = 256;
-const MAX_PATH: usize = 128;
-
-/// A file that has its form.
-pub struct Signed<T> {
-    /// The keyids of its signature entries, in file order.
-    pub entries: Vec<Id>,
-    /// What is signed.
-    pub says: T,
-}
-
-/// What every role has.
-#[derive(Clone, Debug, PartialEq, Eq)]
-pub struct Header {
-    /// "version"
-    pub version: u64,
-    /// "expires", in seconds from 1970.
-    pub expires: i64,
-}
-
-/// A root, as it is kept.
-#[derive(Clone, Debug, PartialEq, Eq)]
-pub struct Root {
-    /// Version and expiry.
-    pub header: Header,
-    /// The key table, in the order of the keyids.
-    pub keys: Vec<Key>,
-    /// Who signs roots.
-    pub root: Role,
-    /// Who signs timestamps.
-    pub timestamp: Role,
-    /// Who signs snapshots.
-    pub snapshot: Role,
-    /// Who signs targets.
-    pub targets: Role,
-}
-
-/// A key of the table.
-#[derive(Clone, Debug, PartialEq, Eq)]
-pub struct Key {
-    /// The keyid.
-    pub keyid: Id,
-    /// The public value.
-    pub public: Id,
-}
-
-/// Who signs for a role.
-#[derive(Clone, Copy, Debug, PartialEq, Eq)]
-pub struct Role {
-    /// The keys, a bit for each place of the key table.
-    pub keys: u16,
-    /// How many of them are enough.
-    pub threshold: u32,
-}
-
-/// A timestamp.
-#[derive(Clone, Debug, PartialEq, Eq)]
-pub struct Timestamp {
-    /// Version and expiry.
-    pub header: Header,
-    /// What is listed for `snapshot.json`.
-    pub snapshot: Listed,
-}
-
-/// A snapshot.
-#[derive(Clone, Debug, PartialEq, Eq)]
-pub struct Snapshot {
-    /// Version and expiry.
-    pub header: Header,
-    /// What is listed, in the order of the names.
-    pub meta: Vec<(Name, Listed)>,
-}
-
-/// A name of 1 to 32 bytes; the rest of the array is zero.
-#[derive(Clone, Copy, Debug, PartialEq, Eq)]
-pub struct Name {
-    bytes: [u8; MAX_NAME],
-    length: usize,
-}
-
-impl Name {
-    fn new(text: Text) -> Option<Name> {
-        let length = text.length();
-        if !(1..=MAX_NAME).contains(&length) {
-            return None;
-        }
-        let mut bytes = [0; MAX_NAME];
-        for (place, byte) in bytes.iter_mut().zip(text.bytes()) {
-            *place = byte;
-        }
-        Some(Name { bytes, length })
-    }
-
-    /// The bytes.
-    pub fn as_bytes(&self) -> &[u8] {
-        &self.bytes[..self.length]
-    }
-}
-
-/// What is listed for a file of metadata.
-#[derive(Clone, Debug, PartialEq, Eq)]
-pub struct Listed {
-    /// "version"
-    pub version: u64,
-    /// "may give "length""
-    pub length: Option<u64>,
-    /// "and "hashes"": the sha256.
-    pub sha256: Option<Id>,
-}
-
-/// What is listed for an image.
-#[derive(Clone, Copy, Debug, PartialEq, Eq)]
-pub struct Target {
-    /// "length"
-    pub length: u64,
-    /// The sha256.
-    pub sha256: Id,
-}
-
-/// A targets file: its header, and what it lists for the path that was asked for.
-pub struct Targets {
-    /// Version and expiry.
-    pub header: Header,
-    /// The image of that path, if it is listed.
-    pub found: Option<Target>,
-}
+use crate::tree::{self, Object, Value};
 
 /// A root file.
 pub fn root(file: &[u8]) -> Result<Signed<Root>, Refusal> {
-    read_file(file, |reader| {
-        let mut header = HeaderFields::new(b"root");
-        let mut consistent_snapshot = None;
-        let mut keys = None;
-        let mut roles = None;
-        reader.object(|reader, name| {
-            match name.raw() {
-                b"consistent_snapshot" => consistent_snapshot = Some(reader.truth()?),
-                b"keys" => keys = Some(read_keys(reader)?),
-                // In canonical text the keys stand before the roles.
-                b"roles" => roles = Some(read_roles(reader, keys.as_deref().ok_or(Fault)?)?),
-                _ => header.read_member(reader, name)?,
-            }
-            Ok(())
-        })?;
-        consistent_snapshot.ok_or(Fault)?;
-        let [root, timestamp, snapshot, targets] = roles.ok_or(Fault)?;
-        let keys = keys.ok_or(Fault)?;
-        header.finish(|header| Root {
+    read(file, b"root", |header, signed| {
+        signed.get("consistent_snapshot")?.truth()?;
+        let key_table = signed.get("keys")?.object()?;
+        let keys = read_keys(key_table)?;
+        let roles = signed.get("roles")?.object()?;
+        let role = |name| read_role(roles.get(name)?, key_table);
+        Some(Root {
             header,
+            root: role("root")?,
+            timestamp: role("timestamp")?,
+            snapshot: role("snapshot")?,
+            targets: role("targets")?,
             keys,
-            root,
-            timestamp,
-            snapshot,
-            targets,
         })
     })
 }
 
 /// A timestamp file.
 pub fn timestamp(file: &[u8]) -> Result<Signed<Timestamp>, Refusal> {
-    read_file(file, |reader| {
-        let mut header = HeaderFields::new(b"timestamp");
-        let mut snapshot = None;
-        reader.object(|reader, name| match name.raw() {
-            b"meta" => reader.object(|reader, name| match name.raw() {
-                b"snapshot.json" => {
-                    snapshot = Some(read_listed(reader)?);
-                    Ok(())
-                }
-                // "the one name `snapshot.json`"
-                _ => Err(Fault),
-            }),
-            _ => header.read_member(reader, name),
-        })?;
-        let snapshot = snapshot.ok_or(Fault)?;
-        header.finish(|header| Timestamp { header, snapshot })
+    read(file, b"timestamp", |header, signed| {
+        let meta = signed.get("meta")?.object()?;
+        // "the one name `snapshot.json`"
+        if meta.count() != 1 {
+            return None;
+        }
+        let snapshot = read_listed(meta.get("snapshot.json")?)?;
+        Some(Timestamp { header, snapshot })
     })
 }
 
 /// A snapshot file.
 pub fn snapshot(file: &[u8]) -> Result<Signed<Snapshot>, Refusal> {
-    read_file(file, |reader| {
-        let mut header = HeaderFields::new(b"snapshot");
-        let mut meta = Vec::new();
-        reader.object(|reader, name| match name.raw() {
-            b"meta" => {
-                meta = read_meta(reader)?;
-                Ok(())
-            }
-            _ => header.read_member(reader, name),
-        })?;
+    read(file, b"snapshot", |header, signed| {
+        let members = signed.get("meta")?.object()?;
         // No name at all is missing this one.
-        if !meta.iter().any(|(name, _)| name.as_bytes() == b"targets.json") {
-            return Err(Fault);
-        }
-        header.finish(|header| Snapshot { header, meta })
+        members.get("targets.json")?;
+        let meta = read_meta(members)?;
+        Some(Snapshot { header, meta })
     })
 }
 
 /// A targets file, in which a path may be looked for.
 pub fn targets(file: &[u8], path: Option<&[u8]>) -> Result<Signed<Targets>, Refusal> {
-    read_file(file, |reader| {
-        let mut header = HeaderFields::new(b"targets");
-        let mut targets = None;
-        reader.object(|reader, name| match name.raw() {
-            b"targets" => {
-                targets = Some(read_targets(reader, path)?);
-                Ok(())
-            }
-            _ => header.read_member(reader, name),
-        })?;
-        let found = targets.ok_or(Fault)?;
-        header.finish(|header| Targets { header, found })
+    read(file, b"targets", |header, signed| {
+        let found = read_targets(signed.get("targets")?.object()?, path)?;
+        Some(Targets { header, found })
     })
 }
 
-/// A signed part, and whether its spec_version is known.
-type Body<T> = (T, bool);
-
-/// Reads a file in one pass. Only where that fails is the text read again, to tell what is not canonical (2) from what
-/// has another form (3).
-fn read_file<'a, T>(
-    file: &'a [u8],
-    signed: impl FnOnce(&mut Reader<'a>) -> text::Result<Body<T>>,
-) -> Result<Signed<T>, Refusal> {
-    if file.len() > MAX_FILE {
-        return Err(Refusal::TooLong);
-    }
-    match text::read_whole(file, |reader| read_envelope(reader, signed)) {
-        Ok((signed, true)) => Ok(signed),
-        Ok((_, false)) => Err(Refusal::SpecVersion),
-        Err(Fault) if is_canonical(file) => Err(Refusal::BrokenForm),
-        Err(Fault) => Err(Refusal::NotCanonical),
-    }
+/// Reads a file of the role. That any form is broken is said before its spec_version is judged.
+fn read<T>(file: &[u8], role: &[u8], says: impl FnOnce(Header, &Object) -> Option<T>) -> Result<Signed<T>, Refusal> {
+    ensure(file.len() <= MAX_FILE, Refusal::TooLong)?;
+    let value = tree::parse(file).map_err(|_| Refusal::NotCanonical)?;
+    let (signed, spec_version) = read_envelope(&value, role, says).ok_or(Refusal::BrokenForm)?;
+    ensure(is_known(spec_version), Refusal::SpecVersion)?;
+    Ok(signed)
 }
 
+/// The entries and what is signed, and the text of spec_version.
 fn read_envelope<'a, T>(
-    reader: &mut Reader<'a>,
-    signed: impl FnOnce(&mut Reader<'a>) -> text::Result<Body<T>>,
-) -> text::Result<Body<Signed<T>>> {
-    let mut entries = None;
-    let mut body = None;
-    let mut signed = Some(signed);
-    reader.object(|reader, name| {
-        match name.raw() {
-            b"signatures" => entries = Some(read_entries(reader)?),
-            b"signed" => body = Some(signed.take().ok_or(Fault)?(reader)?),
-            _ => reader.skip()?,
-        }
-        Ok(())
-    })?;
-    let entries = entries.ok_or(Fault)?;
-    let (says, is_known) = body.ok_or(Fault)?;
-    Ok((Signed { entries, says }, is_known))
+    value: &Value<'a>,
+    role: &[u8],
+    says: impl FnOnce(Header, &Object) -> Option<T>,
+) -> Option<(Signed<T>, Text<'a>)> {
+    let members = value.object()?;
+    let entries = read_entries(members.get("signatures")?.array()?)?;
+    let signed = members.get("signed")?.object()?;
+    let (header, spec_version) = read_header(signed, role)?;
+    let says = says(header, signed)?;
+    Some((Signed { entries, says }, spec_version))
 }
 
-fn read_entries(reader: &mut Reader) -> text::Result<Vec<Id>> {
-    let mut entries = Vec::with_capacity(MAX_ENTRIES);
-    reader.array(|reader| {
-        if entries.len() == MAX_ENTRIES {
-            return Err(Fault);
-        }
-        entries.push(read_entry(reader)?);
-        Ok(())
-    })?;
-    Ok(entries)
+fn read_entries(entries: &[Value]) -> Option<Vec<Id>> {
+    if entries.len() > MAX_ENTRIES {
+        return None;
+    }
+    let mut keyids = Vec::with_capacity(entries.len());
+    for entry in entries {
+        keyids.push(read_entry(entry)?);
+    }
+    Some(keyids)
 }
 
 /// The keyid of an entry of "keyid" and "sig" (128 lower-case hex).
-fn read_entry(reader: &mut Reader) -> text::Result<Id> {
-    let mut keyid = None;
-    let mut has_sig = false;
-    reader.object(|reader, name| {
-        match name.raw() {
-            b"keyid" => keyid = Some(read_id(reader)?),
-            b"sig" => {
-                let sig = reader.string()?.raw();
-                has_sig = sig.len() == 128 && hex::is_hex(sig);
-            }
-            _ => reader.skip()?,
-        }
-        Ok(())
-    })?;
-    keyid.filter(|_| has_sig).ok_or(Fault)
+fn read_entry(entry: &Value) -> Option<Id> {
+    let members = entry.object()?;
+    let sig = members.get("sig")?.string()?.raw();
+    let has_sig = sig.len() == 128 && hex::is_hex(sig);
+    read_id(members.get("keyid")?).filter(|_| has_sig)
 }
 
 /// "64 lower-case hex"
-fn read_id(reader: &mut Reader) -> text::Result<Id> {
-    hex::id(reader.string()?.raw()).ok_or(Fault)
+fn read_id(value: &Value) -> Option<Id> {
+    hex::id(value.string()?.raw())
 }
 
-/// The members that every role has, as they come.
-struct HeaderFields {
-    role: &'static [u8],
-    has_type: bool,
-    is_known: Option<bool>,
-    version: Option<u64>,
-    expires: Option<i64>,
+/// "Every role: "_type" with its name, "spec_version", "version" .., "expires""
+fn read_header<'a>(signed: &Object<'a>, role: &[u8]) -> Option<(Header, Text<'a>)> {
+    if !signed.get("_type")?.string()?.is(role) {
+        return None;
+    }
+    let header = Header {
+        version: signed.get("version")?.within(VERSIONS)?,
+        expires: date::seconds(signed.get("expires")?.string()?.raw())?,
+    };
+    Some((header, signed.get("spec_version")?.string()?))
 }
 
-impl HeaderFields {
-    fn new(role: &'static [u8]) -> HeaderFields {
-        HeaderFields {
-            role,
-            has_type: false,
-            is_known: None,
-            version: None,
-            expires: None,
-        }
-    }
-
-    /// "Every role: "_type" with its name, "spec_version", "version" .., "expires"". "Unknown members are read as text and
-    /// otherwise passed over".
-    fn read_member<'a>(&mut self, reader: &mut Reader<'a>, name: Text<'a>) -> text::Result<()> {
-        match name.raw() {
-            b"_type" => self.has_type = reader.string()?.raw() == self.role,
-            b"expires" => self.expires = date::seconds(reader.string()?.raw()),
-            b"spec_version" => {
-                let spec_version = reader.string()?.raw();
-                self.is_known = Some(spec_version == b"1" || spec_version.starts_with(b"1."));
-            }
-            b"version" => self.version = Some(reader.number_in(VERSIONS)?),
-            _ => reader.skip()?,
-        }
-        Ok(())
-    }
-
-    fn finish<T>(self, body: impl FnOnce(Header) -> T) -> text::Result<Body<T>> {
-        if !self.has_type {
-            return Err(Fault);
-        }
-        let header = Header {
-            version: self.version.ok_or(Fault)?,
-            expires: self.expires.ok_or(Fault)?,
-        };
-        Ok((body(header), self.is_known.ok_or(Fault)?))
-    }
+/// "exactly `1` or beginning with `1.`"
+fn is_known(spec_version: Text) -> bool {
+    spec_version.raw() == b"1" || spec_version.raw().starts_with(b"1.")
 }
 
 /// "keys", 1 to 16. "no two keyids of one file may have the same public value"
-fn read_keys(reader: &mut Reader) -> text::Result<Vec<Key>> {
-    let mut keys: Vec<Key> = Vec::with_capacity(MAX_KEYS);
-    reader.object(|reader, name| {
-        let keyid = hex::id(name.raw()).ok_or(Fault)?;
-        let public = read_key(reader)?;
-        if keys.len() == MAX_KEYS || keys.iter().any(|key| key.public == public) {
-            return Err(Fault);
+fn read_keys(members: &Object) -> Option<Vec<Key>> {
+    if !(1..=MAX_KEYS).contains(&members.count()) {
+        return None;
+    }
+    let mut keys: Vec<Key> = Vec::with_capacity(members.count());
+    for (keyid, key) in members.iter() {
+        let keyid = hex::id(keyid.raw())?;
+        let public = read_key(key)?;
+        if keys.iter().any(|key| key.public == public) {
+            return None;
         }
         keys.push(Key { keyid, public });
-        Ok(())
-    })?;
-    if keys.is_empty() { Err(Fault) } else { Ok(keys) }
+    }
+    Some(keys)
 }
 
 /// The public value of a key: "keytype and scheme `ed25519` and a keyval whose public is 64 lower-case hex".
-fn read_key(reader: &mut Reader) -> text::Result<Id> {
-    let mut is_ed25519 = [false; 2];
-    let mut public = None;
-    reader.object(|reader, name| {
-        match name.raw() {
-            b"keytype" => is_ed25519[0] = reader.string()?.raw() == b"ed25519",
-            b"keyval" => reader.object(|reader, name| {
-                match name.raw() {
-                    b"public" => public = Some(read_id(reader)?),
-                    _ => reader.skip()?,
-                }
-                Ok(())
-            })?,
-            b"scheme" => is_ed25519[1] = reader.string()?.raw() == b"ed25519",
-            _ => reader.skip()?,
+fn read_key(key: &Value) -> Option<Id> {
+    let members = key.object()?;
+    for name in ["keytype", "scheme"] {
+        if !members.get(name)?.string()?.is(b"ed25519") {
+            return None;
         }
-        Ok(())
-    })?;
-    public.filter(|_| is_ed25519 == [true; 2]).ok_or(Fault)
-}
-
-/// "roles" with root, timestamp, snapshot and targets, given in this order. "Other role names are passed over."
-fn read_roles(reader: &mut Reader, keys: &[Key]) -> text::Result<[Role; 4]> {
-    let mut roles = [None; 4];
-    reader.object(|reader, name| {
-        let place = match name.raw() {
-            b"root" => 0,
-            b"timestamp" => 1,
-            b"snapshot" => 2,
-            b"targets" => 3,
-            _ => return reader.skip(),
-        };
-        roles[place] = Some(read_role(reader, keys)?);
-        Ok(())
-    })?;
-    match roles {
-        [Some(root), Some(timestamp), Some(snapshot), Some(targets)] => Ok([root, timestamp, snapshot, targets]),
-        _ => Err(Fault),
     }
+    read_id(members.get("keyval")?.object()?.get("public")?)
 }
 
 /// "1 to 16 different keyids from the key table and a threshold from 1 to the number of those keyids"
-fn read_role(reader: &mut Reader, keys: &[Key]) -> text::Result<Role> {
-    let mut named = None;
-    let mut threshold = None;
-    reader.object(|reader, name| {
-        match name.raw() {
-            b"keyids" => named = Some(read_keyids(reader, keys)?),
-            b"threshold" => threshold = Some(reader.number_in(1..=MAX_KEYS as u64)? as u32),
-            _ => reader.skip()?,
-        }
-        Ok(())
-    })?;
-    let role = Role {
-        keys: named.ok_or(Fault)?,
-        threshold: threshold.ok_or(Fault)?,
-    };
-    if role.threshold <= role.keys.count_ones() {
-        Ok(role)
-    } else {
-        Err(Fault)
-    }
+fn read_role(role: &Value, key_table: &Object) -> Option<Role> {
+    let members = role.object()?;
+    let keys = read_keyids(members.get("keyids")?.array()?, key_table)?;
+    let most = u64::from(keys.count_ones());
+    let threshold = members.get("threshold")?.within(1..=most)? as u32;
+    Some(Role { keys, threshold })
 }
 
-/// The keys as bits; each may be named once. That there are any, the threshold asks.
-fn read_keyids(reader: &mut Reader, keys: &[Key]) -> text::Result<u16> {
+/// The keys as bits; each may be named once. That there are any, the threshold asks. Two strings are equal exactly if their
+/// raw bytes are, so the hex need not be undone to find a key.
+fn read_keyids(keyids: &[Value], key_table: &Object) -> Option<u16> {
     let mut named = 0;
-    reader.array(|reader| {
-        let keyid = read_id(reader)?;
-        let place = keys.iter().position(|key| key.keyid == keyid).ok_or(Fault)?;
+    for keyid in keyids {
+        let keyid = keyid.string()?.raw();
+        let place = key_table.iter().position(|(key, _)| key.raw() == keyid)?;
         let bit = 1 << place;
         if named & bit != 0 {
-            return Err(Fault);
+            return None;
         }
         named |= bit;
-        Ok(())
-    })?;
-    Ok(named)
+    }
+    Some(named)
 }
 
 /// "meta" with at most 32 names of 1 to 32 bytes.
-fn read_meta(reader: &mut Reader) -> text::Result<Vec<(Name, Listed)>> {
-    let mut meta = Vec::with_capacity(MAX_NAMES);
-    reader.object(|reader, name| {
-        if meta.len() == MAX_NAMES {
-            return Err(Fault);
-        }
-        let name = Name::new(name).ok_or(Fault)?;
-        meta.push((name, read_listed(reader)?));
-        Ok(())
-    })?;
-    Ok(meta)
+fn read_meta(members: &Object) -> Option<Vec<(Name, Listed)>> {
+    if members.count() > MAX_NAMES {
+        return None;
+    }
+    let mut meta = Vec::with_capacity(members.count());
+    for (name, listed) in members.iter() {
+        meta.push((Name::new(name)?, read_listed(listed)?));
+    }
+    Some(meta)
 }
 
-/// "Each gives "version", in the same range, and may give "length" and "hashes"."
-fn read_listed(reader: &mut Reader) -> text::Result<Listed> {
-    let mut version = None;
-    let mut length = None;
-    let mut sha256 = None;
-    reader.object(|reader, name| {
-        match name.raw() {
-            b"hashes" => sha256 = Some(read_hashes(reader)?),
-            b"length" => length = Some(reader.number_in(LENGTHS)?),
-            b"version" => version = Some(reader.number_in(VERSIONS)?),
-            _ => reader.skip()?,
-        }
-        Ok(())
-    })?;
-    Ok(Listed {
-        version: version.ok_or(Fault)?,
-        length,
-        sha256,
+/// "Each gives "version", in the same range, and may give "length" and "hashes"". What is given must have its form.
+fn read_listed(listed: &Value) -> Option<Listed> {
+    let members = listed.object()?;
+    Some(Listed {
+        version: members.get("version")?.within(VERSIONS)?,
+        length: given(members.get("length"), |length| length.within(LENGTHS))?,
+        sha256: given(members.get("hashes"), read_hashes)?,
     })
 }
 
+/// A member that may be missing: `Some(None)` if it is, `None` if it is there and has not its form.
+fn given<'v, 'a, T>(
+    member: Option<&'v Value<'a>>,
+    read_one: impl FnOnce(&'v Value<'a>) -> Option<T>,
+) -> Option<Option<T>> {
+    match member {
+        None => Some(None),
+        Some(value) => read_one(value).map(Some),
+    }
+}
+
 /// ""hashes" must have "sha256", 64 lower-case hex; other hash names are passed over."
-fn read_hashes(reader: &mut Reader) -> text::Result<Id> {
-    let mut sha256 = None;
-    reader.object(|reader, name| {
-        match name.raw() {
-            b"sha256" => sha256 = Some(read_id(reader)?),
-            _ => reader.skip()?,
-        }
-        Ok(())
-    })?;
-    sha256.ok_or(Fault)
+fn read_hashes(hashes: &Value) -> Option<Id> {
+    read_id(hashes.object()?.get("sha256")?)
 }
 
 /// "targets", 0 to 256 names of 1 to 128 bytes. All are checked, and the one of the path is given.
-fn read_targets(reader: &mut Reader, path: Option<&[u8]>) -> text::Result<Option<Target>> {
+fn read_targets(members: &Object, path: Option<&[u8]>) -> Option<Option<Target>> {
+    if members.count() > MAX_TARGETS {
+        return None;
+    }
     let mut found = None;
-    let mut count = 0;
-    reader.object(|reader, name| {
-        count += 1;
-        if count > MAX_TARGETS || !(1..=MAX_PATH).contains(&name.length()) {
-            return Err(Fault);
+    for (name, target) in members.iter() {
+        if !(1..=MAX_PATH).contains(&name.length()) {
+            return None;
         }
-        let target = read_target(reader)?;
+        let target = read_target(target)?;
         if path.is_some_and(|path| name.is(path)) {
             found = Some(target);
         }
-        Ok(())
-    })?;
-    Ok(found)
+    }
+    Some(found)
 }
 
 /// "each with "length" and "hashes" as above, both required"
-fn read_target(reader: &mut Reader) -> text::Result<Target> {
-    let mut length = None;
-    let mut sha256 = None;
-    reader.object(|reader, name| {
-        match name.raw() {
-            b"hashes" => sha256 = Some(read_hashes(reader)?),
-            b"length" => length = Some(reader.number_in(LENGTHS)?),
-            _ => reader.skip()?,
-        }
-        Ok(())
-    })?;
-    Ok(Target {
-        length: length.ok_or(Fault)?,
-        sha256: sha256.ok_or(Fault)?,
+fn read_target(target: &Value) -> Option<Target> {
+    let members = target.object()?;
+    Some(Target {
+        length: members.get("length")?.within(LENGTHS)?,
+        sha256: read_hashes(members.get("hashes")?)?,
     })
 }

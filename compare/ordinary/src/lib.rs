@@ -1,23 +1,41 @@
-//! Document 01 as a good Rust engineer would write it for production: what the library's speed is measured against.
+//! Document 01 as ordinary Rust for production: `paper`'s way without its waste.
 //!
-//! What was chosen: one pass. A cursor ([`text::Reader`]) validates canonical text as it goes, and the forms ([`forms`])
-//! drive it: an object's reader is given each name as a borrowed part of the file and reads the value it wants or skips
-//! it, so a file that is accepted is gone over once (and once more by `str::from_utf8`). Only a file that is not accepted
-//! is validated again, to tell a broken form from broken text. There is no tree of values. Nothing is copied but what
-//! the state keeps, and there are at most two allocations for a file: the keyids of its entries, and a root's key table
-//! or a snapshot's list. The steps ([`State`]) are methods on `&mut self` that ask the table's conditions in rising
-//! order.
-//!
-//! The crate was written from the documents. It shares no code with the library or with `paper`, to which its answers
-//! are compared by its tests. Words in quotation marks are 01's own.
+//! A file is parsed into a tree of values ([`tree`]), and the forms ([`forms`]) take the tree apart. The parse is the only
+//! one, and it validates: nothing is written again to be compared. The tree borrows: a string or number is a part of the
+//! file, its escapes still on, and the members of an object stand in a `Vec` in the order of the text, which is that of the
+//! names. So only the arrays and objects of the tree are allocated, and what the state keeps.
 
-pub mod date;
 pub mod forms;
-pub mod hex;
-pub mod refusal;
-mod state;
-pub mod text;
+pub mod tree;
 
-pub use refusal::{Refusal, number_of};
-pub use state::State;
-pub use text::is_canonical;
+use common::records::{Root, Signed, Snapshot, Targets, Timestamp};
+use common::{Forms, Refusal};
+
+/// Reads files by way of a tree.
+#[derive(Clone, Debug)]
+pub struct Tree;
+
+/// The trusted state, of files that are read by way of a tree.
+pub type State = common::State<Tree>;
+
+impl Forms for Tree {
+    fn is_canonical(text: &[u8]) -> bool {
+        tree::parse(text).is_ok()
+    }
+
+    fn root(file: &[u8]) -> Result<Signed<Root>, Refusal> {
+        forms::root(file)
+    }
+
+    fn timestamp(file: &[u8]) -> Result<Signed<Timestamp>, Refusal> {
+        forms::timestamp(file)
+    }
+
+    fn snapshot(file: &[u8]) -> Result<Signed<Snapshot>, Refusal> {
+        forms::snapshot(file)
+    }
+
+    fn targets(file: &[u8], path: Option<&[u8]>) -> Result<Signed<Targets>, Refusal> {
+        forms::targets(file, path)
+    }
+}

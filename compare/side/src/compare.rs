@@ -74,14 +74,6 @@ impl Case {
         self.stated.is_some()
     }
 
-    /// The call, unless the line is to stand as it is.
-    pub fn call(&self) -> Option<&Call> {
-        match &self.line {
-            Line::Call(call) => Some(call),
-            Line::Raw(_) => None,
-        }
-    }
-
     /// The line of the script.
     pub fn line(&self) -> String {
         let mut line = Vec::new();

@@ -1,44 +1,49 @@
 //! "Steps" (01): the trusted state. Each step reads the offered file, asks the table's conditions in rising order, and
 //! only then changes the state.
 
-use crate::forms::{self, Header, Listed, Role, Root, Signed, Snapshot, Target, Timestamp};
+use std::marker::PhantomData;
+
+use crate::forms::Forms;
 use crate::hex::Id;
+use crate::records::{Header, Listed, Role, Root, Signed, Snapshot, Target, Timestamp};
 use crate::refusal::{Refusal, ensure};
 
-/// The trusted state.
-#[derive(Clone, Debug, PartialEq, Eq)]
-pub struct State {
+/// The trusted state; its steps read files by `F`.
+#[derive(Clone, Debug)]
+pub struct State<F> {
     root: Option<Root>,
     timestamp: Option<Timestamp>,
     snapshot: Option<Snapshot>,
     targets: Option<HeldTargets>,
     start: i64,
+    forms: PhantomData<F>,
 }
 
 /// "The file's digest is kept."
-#[derive(Clone, Debug, PartialEq, Eq)]
+#[derive(Clone, Debug)]
 struct HeldTargets {
     header: Header,
     digest: Id,
 }
 
-impl Default for State {
+impl<F> Default for State<F> {
     /// "the blank state, which holds no record and has the lowest signed 64-bit count as its start time"
-    fn default() -> State {
+    fn default() -> State<F> {
         State {
             root: None,
             timestamp: None,
             snapshot: None,
             targets: None,
             start: i64::MIN,
+            forms: PhantomData,
         }
     }
 }
 
-impl State {
+impl<F: Forms> State<F> {
     /// Install (1 to 5, 10): "a root judged by its own root role. No expiry check."
-    pub fn install(file: &[u8], row: &[u8], start: i64) -> Result<State, Refusal> {
-        let Signed { entries, says: root } = forms::root(file)?;
+    pub fn install(file: &[u8], row: &[u8], start: i64) -> Result<State<F>, Refusal> {
+        let Signed { entries, says: root } = F::root(file)?;
         check_row(row, &entries)?;
         ensure(root.is_signed(root.root, &entries, row), Refusal::FewOwnKeys)?;
         Ok(State {
@@ -55,7 +60,7 @@ impl State {
 
     /// Root (1 to 6, 9, 10, 11): the verdicts under the held root's keys, and those under its own.
     pub fn root(&mut self, file: &[u8], held_row: &[u8], own_row: &[u8]) -> Result<(), Refusal> {
-        let Signed { entries, says: new } = forms::root(file)?;
+        let Signed { entries, says: new } = F::root(file)?;
         check_row(held_row, &entries)?;
         check_row(own_row, &entries)?;
         let held = self.root.as_ref().ok_or(Refusal::NotHeld)?;
@@ -79,7 +84,7 @@ impl State {
 
     /// Timestamp (1 to 7, 9, 11 to 14): "leans on root".
     pub fn timestamp(&mut self, file: &[u8], row: &[u8]) -> Result<(), Refusal> {
-        let Signed { entries, says: new } = forms::timestamp(file)?;
+        let Signed { entries, says: new } = F::timestamp(file)?;
         check_row(row, &entries)?;
         let root = self.root.as_ref().ok_or(Refusal::NotHeld)?;
         self.check_held(&root.header)?;
@@ -96,7 +101,7 @@ impl State {
 
     /// Snapshot (1 to 9, 11, 13, 14): "needs a timestamp, leans on root and timestamp".
     pub fn snapshot(&mut self, file: &[u8], row: &[u8], digest: &[u8]) -> Result<(), Refusal> {
-        let Signed { entries, says: new } = forms::snapshot(file)?;
+        let Signed { entries, says: new } = F::snapshot(file)?;
         check_row(row, &entries)?;
         let digest = read_digest(digest)?;
         let root = self.root.as_ref().ok_or(Refusal::NotHeld)?;
@@ -116,7 +121,7 @@ impl State {
 
     /// Targets (1 to 9, 11, 14): "needs a current snapshot", "leans on root, timestamp, snapshot".
     pub fn targets(&mut self, file: &[u8], row: &[u8], digest: &[u8]) -> Result<(), Refusal> {
-        let Signed { entries, says: new } = forms::targets(file, None)?;
+        let Signed { entries, says: new } = F::targets(file, None)?;
         check_row(row, &entries)?;
         let digest = read_digest(digest)?;
         let root = self.root.as_ref().ok_or(Refusal::NotHeld)?;
@@ -139,7 +144,7 @@ impl State {
     /// Find (1 to 8, 15): the length and digest of an image. "Needs current targets .. and a current snapshot; leans on
     /// all four."
     pub fn find(&self, file: &[u8], digest: &[u8], path: &[u8]) -> Result<Target, Refusal> {
-        let given = forms::targets(file, Some(path))?.says;
+        let given = F::targets(file, Some(path))?.says;
         let digest = read_digest(digest)?;
         let root = self.root.as_ref().ok_or(Refusal::NotHeld)?;
         let (timestamp, snapshot) = self.current_snapshot().ok_or(Refusal::NotHeld)?;

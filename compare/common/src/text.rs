@@ -83,16 +83,20 @@ pub struct Reader<'a> {
 }
 
 impl<'a> Reader<'a> {
+    /// The byte that comes next. It tells what kind of value begins there.
+    pub fn next_byte(&self) -> Option<u8> {
+        self.rest.first().copied()
+    }
+
     /// Passes over any value.
     pub fn skip(&mut self) -> Result<()> {
-        match self.rest.first() {
+        match self.next_byte() {
             Some(b'"') => self.string().map(drop),
             Some(b'{') => self.object(|reader, _| reader.skip()),
             Some(b'[') => self.array(Reader::skip),
             Some(b'-' | b'0'..=b'9') => self.number().map(drop),
-            Some(b't') => self.expect(b"true"),
-            Some(b'f') => self.expect(b"false"),
-            Some(b'n') => self.expect(b"null"),
+            Some(b't' | b'f') => self.truth().map(drop),
+            Some(b'n') => self.null(),
             _ => Err(Fault),
         }
     }
@@ -155,16 +159,7 @@ impl<'a> Reader<'a> {
 
     /// A whole number in the range.
     pub fn number_in(&mut self, range: RangeInclusive<u64>) -> Result<u64> {
-        let digits = self.number()?;
-        let number = digits.iter().try_fold(0u64, |number, digit| {
-            let value = digit.wrapping_sub(b'0');
-            // A minus is no digit.
-            if value > 9 {
-                return None;
-            }
-            number.checked_mul(10)?.checked_add(u64::from(value))
-        });
-        number.filter(|number| range.contains(number)).ok_or(Fault)
+        number_in(self.number()?, range).ok_or(Fault)
     }
 
     /// `true` or `false`.
@@ -176,8 +171,13 @@ impl<'a> Reader<'a> {
         Ok(is_true)
     }
 
+    /// `null`
+    pub fn null(&mut self) -> Result<()> {
+        self.expect(b"null")
+    }
+
     /// "0, or an optional minus and digits that do not begin with 0", as written.
-    fn number(&mut self) -> Result<&'a [u8]> {
+    pub fn number(&mut self) -> Result<&'a [u8]> {
         let sign = usize::from(self.rest.starts_with(b"-"));
         let digits = self.rest[sign..]
             .iter()
@@ -221,6 +221,19 @@ impl<'a> Reader<'a> {
             None => false,
         }
     }
+}
+
+/// The number that is written so, if it is in the range.
+pub fn number_in(written: &[u8], range: RangeInclusive<u64>) -> Option<u64> {
+    let number = written.iter().try_fold(0u64, |number, digit| {
+        let value = digit.wrapping_sub(b'0');
+        // A minus is no digit.
+        if value > 9 {
+            return None;
+        }
+        number.checked_mul(10)?.checked_add(u64::from(value))
+    });
+    number.filter(|number| range.contains(number))
 }
 
 /// How many bytes from the front stand for themselves.

@@ -46,6 +46,6 @@ pub fn number_of<T>(result: &Result<T, Refusal>) -> u8 {
 
 /// Refuses unless the condition holds. The steps ask their conditions in the order of the table, so the first refusal is
 /// "the lowest number whose condition holds".
-pub(crate) fn ensure(holds: bool, otherwise: Refusal) -> Result<(), Refusal> {
+pub fn ensure(holds: bool, otherwise: Refusal) -> Result<(), Refusal> {
     if holds { Ok(()) } else { Err(otherwise) }
 }
