@@ -136,6 +136,7 @@ impl State {
         }
         accepted(self.trusted.with_snapshot(read.snapshot))
     }
+
     // "Targets (1 to 9, 11, 14)": "The file's digest is kept". No path is asked for.
     pub fn targets(self, file: &[u8], row: &[u8], digest: &[u8]) -> Step
         ensures { λ r. ⌜ Steps self (newTargets (record { file = now (file .entry); row = now (row .entry); digest = now (digest .entry) })) (numberOf (r .answer)) (r .state) ⌝ }
