@@ -9,7 +9,7 @@ blank-requires c κs = search needs
 
 returns : tie.Need-returns
 unfolding view
-returns c = c .blank .ensures
+returns c = search needs
 
 pub blank-spec : {M : Type 1} → statement M
 blank-spec = tie.close (tie.spec blank-requires returns)

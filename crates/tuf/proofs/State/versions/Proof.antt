@@ -9,7 +9,7 @@ versions-requires c κs = search needs
 
 returns : tie.Need-returns
 unfolding view
-returns c = c .versions .ensures
+returns c = search needs
 
 pub versions-spec : {M : Type 1} → statement M
 versions-spec = tie.close (tie.spec versions-requires returns)
