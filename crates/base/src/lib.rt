@@ -98,7 +98,7 @@ fn all_hex(s: &[u8]) -> bool
 }
 
 // Whether s is n bytes in hex.
-fn is_hex(s: &[u8], n: usize) -> bool
+pub fn is_hex(s: &[u8], n: usize) -> bool
     ensures { λ r. ⌜ r ≡ isHex n (now (s .entry)) ⌝ }
 {
     if s.len() % 2 != 0 {

@@ -1,5 +1,5 @@
 -- Signature entries: one entry, and the keyids of all of them.
-use mathlib.Core.Path.{_≡_, refl}
+use mathlib.Core.Path.{_≡_, refl, sym, _∙_}
 use mathlib.Core.Option.{Option, none, some, bind}
 use mathlib.Core.List.{List, _∷_}
 use mathlib.Core.Bool.{Bool, true, false, _&&_}
@@ -8,17 +8,19 @@ use native.Mathlib.Omega.{arith}
 use lib.Dec.{leb}
 use borrow.Author.Tests.{le-leb}
 use Rattle.base.specs.Bytes.{Bytes, bytes}
+use Rattle.base.specs.Hex.{isHex, undo}
 use Rattle.json.specs.Json.{Json, Items, inil, icons}
-use Rattle.json.specs.Fields.{items, size, keep}
-use Rattle.lookup.specs.Place.{Takes}
+use Rattle.json.specs.Fields.{items, text, field, size, keep}
 use Rattle.rules.specs.Limits.{maxEntries, keySize, signatureSize}
-use Rattle.rules.specs.Take.{_>>=_, must, hex, each}
+use Rattle.rules.specs.Take.{_>>=_, must, unhex, hex, each}
+use Rattle.rules.proofs.OptionLaws.{none-not-some}
 use Rattle.rules.specs.Records.{Entry}
 use Rattle.rules.specs.Forms.{entry, entries}
 use Rattle.rules.specs.Reading.{keyidsOf}
 use Rattle.forms.specs.Each.{eachItem}
 use Rattle.forms.proofs.ListedLaws.{keep-in}
-use Rattle.envelope.specs.Header.{keyids}
+use Rattle.forms.specs.Member.{signature}
+use Rattle.envelope.specs.Header.{keyidOf, keyids}
 
 -- ## One entry
 
@@ -32,18 +34,43 @@ module _ (v : Json) (ok : Bool) (id : Bytes) (e : keep ok id ≡ must (bytes "ke
   unfolding entry bind keep
   entry-is q ok′ sig f = rw (← e, q, ← f) (keep-in ok′ sig (λ x. record { keyid = id; sig = x }))
 
--- its keyid
-unfoldable pub keyidOf : Json → Option Bytes
-keyidOf v = entry v >>= λ e. some (e .keyid)
+-- ## Its keyid, where the signature is only looked at
 
-module _ (s : Bytes) (i : ℕ) (ok : Bool) (a : Entry) (t : Takes s i entry (keep ok a)) where
-  pub keyid-none : ok ≡ false → Takes s i keyidOf none
-  unfolding keyidOf bind keep
-  keyid-none q v h = rw (← t v h, q)
+abbrev made : Bytes → Bytes → Option Entry
+made id s = some (record { keyid = id; sig = s })
 
-  pub keyid-some : ok ≡ true → Takes s i keyidOf (some (a .keyid))
-  unfolding keyidOf bind keep
-  keyid-some q v h = rw (← t v h, q)
+module _ (v : Json) where
+  looked-at : (k : Bytes) → must k signature v ≡ (must k (hex signatureSize) v >>= λ _. some (tt {0}))
+  unfolding must signature hex unhex bind keep
+  looked-at k = go (field k v)
+    where
+      test : (b : Bool) (x : Bytes) → keep b (tt {0}) ≡ (keep b x >>= λ _. some (tt {0}))
+      test true x = refl
+      test false x = refl
+
+      said : (o : Option Bytes) → (o >>= λ b. keep (isHex signatureSize b) (tt {0})) ≡ ((o >>= λ b. keep (isHex signatureSize b) (undo b)) >>= λ _. some (tt {0}))
+      said none = refl
+      said (some b) = test (isHex signatureSize b) (undo b)
+
+      go : (o : Option Json) → (o >>= λ w. text w >>= λ b. keep (isHex signatureSize b) (tt {0})) ≡ ((o >>= λ w. text w >>= λ b. keep (isHex signatureSize b) (undo b)) >>= λ _. some (tt {0}))
+      go none = refl
+      go (some w) = said (text w)
+
+  module _ (ok : Bool) (id : Bytes) (e : keep ok id ≡ must (bytes "keyid") (hex keySize) v) where
+    pub keyid-broken : ok ≡ false → none ≡ keyidOf v
+    unfolding keyidOf bind
+    keyid-broken q = rw (← no-keyid v ok id e q)
+
+    pub keyid-is : ok ≡ true → (sig : Bool) → keep sig (tt {0}) ≡ must (bytes "sig") signature v → keep sig id ≡ keyidOf v
+    unfolding keyidOf entry bind keep
+    keyid-is q sig f = rw (← e, q) (go sig (must (bytes "sig") (hex signatureSize) v) (f ∙ looked-at (bytes "sig")))
+      where
+        go : (sig : Bool) (o : Option Bytes) → keep sig (tt {0}) ≡ (o >>= λ _. some (tt {0}))
+            → keep sig id ≡ ((o >>= made id) >>= λ e. some (e .keyid))
+        go true none f = none-not-some (sym f)
+        go true (some s) f = refl
+        go false none f = refl
+        go false (some s) f = none-not-some f
 
 -- ## All of them
 

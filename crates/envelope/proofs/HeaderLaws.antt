@@ -108,6 +108,10 @@ module _ {A : Type 0} (type : Bytes) (body : Json → Option A) (v : Json) where
   pub no-file : none ≡ header type v → none ≡ fileOf type body v
   no-file = steps (λ h f. none ≡ h → none ≡ f) (λ e. refl) (λ t n x e. none-not-some e)
 
+  pub no-body : none ≡ body v → none ≡ fileOf type body v
+  unfolding bind
+  no-body e = steps (λ h f. none ≡ f) refl (λ t n x. rw (← e) refl)
+
   pub file-by : (h : Header) → some h ≡ header type v
       → (t : Bytes) × (knownSpec t ≡ h .known) × (fileOf type body v ≡ (body v >>= λ b. some (file t (h .version) (h .expires) b)))
   file-by h =

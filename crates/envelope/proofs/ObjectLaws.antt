@@ -18,11 +18,11 @@ module _ (s : Bytes) (p : ℕ) (m : Member) (w : FirstMember s p m) (v : Json) (
   unfolding object bind
   not-object q = go (members v) (w .means v h)
     where
-      left : (x : Member) (ms : Members) → x ≡ NoObject → MembersLeft s x ms → none ≡ some (tt {0})
-      left x ms q members-end = let z : _≡_ {A = ℕ} 0 1 = cc in absurd (omega arith)
-      left x ms q (members-at rest t u g) = let z : _≡_ {A = ℕ} 0 1 = cc in absurd (omega arith)
+      left : (x : Member) (ms : Members) → x ≡ NoObject → MembersLeft s (h .rest) x ms → none ≡ some (tt {0})
+      left x ms q (members-end t) = let z : _≡_ {A = ℕ} 0 1 = cc in absurd (omega arith)
+      left x ms q (members-at t u g) = let z : _≡_ {A = ℕ} 0 1 = cc in absurd (omega arith)
 
-      go : (o : Option Members) → MembersOf s m o → none ≡ (o >>= λ _. some (tt {0}))
+      go : (o : Option Members) → MembersOf s (h .rest) m o → none ≡ (o >>= λ _. some (tt {0}))
       go none e = refl
       go (some ms) l = left m ms q l
 
@@ -30,6 +30,6 @@ module _ (s : Bytes) (p : ℕ) (m : Member) (w : FirstMember s p m) (v : Json) (
   unfolding object bind
   is-object q = go (members v) (w .means v h)
     where
-      go : (o : Option Members) → MembersOf s m o → some (tt {0}) ≡ (o >>= λ _. some (tt {0}))
+      go : (o : Option Members) → MembersOf s (h .rest) m o → some (tt {0}) ≡ (o >>= λ _. some (tt {0}))
       go none e = absurd (q e)
       go (some ms) l = refl

@@ -1,6 +1,6 @@
--- A role's file: from the envelope to its header, and from the header and a body to what the file says. 3 is said before 4.
--- The laws `role-refused`, `role-broken`, `role-other` and `role-says` are the ways out of a function that reads the file of a role.
-use mathlib.Core.Path.{_≡_, refl, sym, _∙_}
+-- A role's file: from the envelope, its header and its body to what the file says. 3 is said before 4.
+-- The laws `role-refused`, `role-broken`, `role-headless`, `role-other` and `role-says` are the ways out of a function that reads the file of a role.
+use mathlib.Core.Path.{_≡_, refl, sym, ap, _∙_}
 use mathlib.Core.Option.{Option, none, some, bind}
 use mathlib.Core.List.{List}
 use mathlib.Core.Bool.{Bool, true, false, cond}
@@ -23,11 +23,10 @@ use Rattle.rules.specs.Steps.{faultNumber}
 use Rattle.rules.proofs.TableLaws.{fault-refuses}
 use Rattle.records.specs.View.{viewEntries}
 use Rattle.envelope.specs.Header.{Header, header}
-use Rattle.envelope.specs.Open.{Opens, headed, headedBy, Heads, fault, viewRead}
+use Rattle.envelope.specs.Open.{IsOpen, Opens, fault, viewRead}
 use Rattle.envelope.specs.declared.Opened.{Opened}
-use Rattle.envelope.specs.declared.RoleFile.{RoleFile}
 use Rattle.envelope.proofs.OpenLaws.{cut, held}
-use Rattle.envelope.proofs.HeaderLaws.{file, no-file, file-by}
+use Rattle.envelope.proofs.HeaderLaws.{file, no-file, no-body, file-by}
 
 -- ## Numbers of refusals
 
@@ -38,32 +37,16 @@ fault-number notText = refl
 fault-number badForm = refl
 fault-number otherSpec = refl
 
--- ## From the envelope to the header
+-- ## From the envelope, the header and a body to what the file says
 
-module _ (type bytes : Bytes) (o : Opened) (r : RoleFile) where
-  pub heads-refused : (e : Read Envelope) → Opens bytes o e → (o .answer ≡ 0 → ⊥) → r .answer ≡ o .answer → Heads bytes r (headedBy type e)
-  unfolding headedBy
-  heads-refused (refused f) w n e = e ∙ w .answer
-  heads-refused (says d ks) w n e = absurd (n (w .answer))
+module _ {A : Type 0} (e : Envelope) (spec : Bytes) (n : ℕ) (x : ℤ) (b : A) where
+  spoken-other : knownSpec spec ≡ false → spoken e (some (file spec n x b)) ≡ refused otherSpec
+  unfolding spoken known
+  spoken-other k = rw k refl
 
-  module _ (z : o .answer ≡ 0) (h : Option Header) (t : Takes bytes (o .start) (header type) h) where
-    pub heads-broken : (e : Read Envelope) → Opens bytes o e → h ≡ none → r .answer ≡ 3 → Heads bytes r (headedBy type e)
-    unfolding headedBy headed faultNumber
-    heads-broken (refused f) w q a = absurd (fault-refuses f (sym (w .answer) ∙ z))
-    heads-broken (says d ks) w q a = let e : header type (d .signed) ≡ none = sym (t (d .signed) (w .stands)) ∙ q in rw e a
-
-    pub heads-is : (e : Read Envelope) → Opens bytes o e → (x : Header) → h ≡ some x → r .answer ≡ 0 → r .known ≡ x .known → r .version ≡ x .version → r .expires .seconds ≡ x .expires
-        → viewEntries (r .entries) ≡ viewEntries (o .entries) → r .start ≡ o .start → Heads bytes r (headedBy type e)
-    unfolding headedBy headed
-    heads-is (refused f) w x q a k n y ks st = absurd (fault-refuses f (sym (w .answer) ∙ z))
-    heads-is (says d ls) w x q a k n y ks st =
-        let e : header type (d .signed) ≡ some x = sym (t (d .signed) (w .stands)) ∙ q in
-        rw e (record { answer = a; known = k; version = n; expires = y; keyids = ks ∙ w .keyids; stands = moved st (w .stands) })
-      where
-        moved : {v : Json} {x y : ℕ} → x ≡ y → Stands bytes y v → Stands bytes x v
-        moved e h = rw e h
-
--- ## From the header and a body to what the file says
+  spoken-known : knownSpec spec ≡ true → (ks : List Bytes) → ks ≡ keyidsOf (e .entries) → spoken e (some (file spec n x b)) ≡ says (file spec n x b) ks
+  unfolding spoken known
+  spoken-known k ks q = rw (k, q) refl
 
 module _ {A : Type 0} (type : Bytes) (body : Json → Option A) where
   unfoldable after : Read Envelope → Read (File A)
@@ -84,100 +67,91 @@ module _ {A : Type 0} (type : Bytes) (body : Json → Option A) where
       go true none = refl
       go true (some v) = inner (envelope v)
 
-  -- what a file says whose header was read, by its body
-  unfoldable pub ending : Bytes → RoleFile → Option A → Read (File A)
-  ending spec r none = refused badForm
-  ending spec r (some b) = cond (r .known) (says (file spec (r .version) (r .expires .seconds) b) (viewEntries (r .entries))) (refused otherSpec)
-
-  module _ (spec : Bytes) (r : RoleFile) (o : Option A) where
-    ending-none : o ≡ none → ending spec r o ≡ refused badForm
-    unfolding ending
-    ending-none e = rw e
-
-    ending-other : (a : A) → o ≡ some a → r .known ≡ false → ending spec r o ≡ refused otherSpec
-    unfolding ending
-    ending-other a e k = rw (e, k)
-
-    ending-says : (a : A) → o ≡ some a → r .known ≡ true → ending spec r o ≡ says (file spec (r .version) (r .expires .seconds) a) (viewEntries (r .entries))
-    unfolding ending
-    ending-says a e k = rw (e, k)
-
-  pub record Ended (bytes : Bytes) (r : RoleFile) : Type 0 where
-    pub signed : Json
-    pub stands : Stands bytes (r .start) signed
-    pub spec : Bytes
-    pub known-is : knownSpec spec ≡ r .known
-    pub is : readAs type body bytes ≡ ending spec r (body signed)
-
-  -- the file is refused, and r says which refusal it is
-  abbrev RefusedAs : Bytes → RoleFile → Type 0
-  RefusedAs bytes r = (f : Fault) × (r .answer ≡ faultNumber f) × (readAs type body bytes ≡ refused f)
-
-  module _ (bytes : Bytes) (r : RoleFile) (w : Heads bytes r (headedBy type (readEnvelope bytes))) where
-    pub ended : r .answer ≡ 0 → Ended bytes r
-    unfolding after headedBy headed ending spoken known bind
-    ended z = envelope-of (readEnvelope bytes) w (by-envelope bytes)
+  module _ (bytes : Bytes) (o : Opened) (w : Opens bytes o (readEnvelope bytes)) where
+    -- the file is refused, and o says which refusal it is
+    refused-as : (o .answer ≡ 0 → ⊥) → (f : Fault) × (o .answer ≡ faultNumber f) × (readAs type body bytes ≡ refused f)
+    unfolding after
+    refused-as n = go (readEnvelope bytes) w (by-envelope bytes)
       where
-        last : (e : Envelope) (spec : Bytes) (k : Bool) (n : ℕ) (x : ℤ) → knownSpec spec ≡ k → r .known ≡ k → r .version ≡ n → r .expires .seconds ≡ x
-            → viewEntries (r .entries) ≡ keyidsOf (e .entries) → (b : Option A) (f : Option (File A)) → f ≡ (b >>= λ b. some (file spec n x b)) → spoken e f ≡ ending spec r b
-        last e spec k n x a d c g ks none f m = rw m refl
-        last e spec k n x a d c g ks (some b) f m = rw (m, a, d, c, g, ks) refl
+        go : (e : Read Envelope) → Opens bytes o e → readAs type body bytes ≡ after e → (f : Fault) × (o .answer ≡ faultNumber f) × (readAs type body bytes ≡ refused f)
+        go (refused f) w i = (f, w .answer, i)
+        go (says e ks) w i = absurd (n (w .answer))
 
-        header-of : (e : Envelope) (h : Option Header) → header type (e .signed) ≡ h → Heads bytes r (headed e h) → readAs type body bytes ≡ spoken e (fileOf type body (e .signed)) → Ended bytes r
-        header-of e none q w i = absurd (fault-refuses badForm (sym w ∙ z))
-        header-of e (some h) q w i =
-            let f = file-by type body (e .signed) h (sym q) in
-            record { signed = e .signed; stands = w .stands; spec = f .0; known-is = f .1 ∙ sym (w .known); is = i ∙ last e (f .0) (h .known) (h .version) (h .expires) (f .1) (w .known) (w .version) (w .expires) (w .keyids) (body (e .signed)) (fileOf type body (e .signed)) (f .2) }
-
-        envelope-of : (e : Read Envelope) → Heads bytes r (headedBy type e) → readAs type body bytes ≡ after e → Ended bytes r
-        envelope-of (refused f) w i = absurd (fault-refuses f (sym w ∙ z))
-        envelope-of (says e ks) w i = header-of e (header type (e .signed)) refl w i
-
-    pub refused-as : (r .answer ≡ 0 → ⊥) → RefusedAs bytes r
-    unfolding after headedBy headed spoken
-    refused-as n = envelope-of (readEnvelope bytes) w (by-envelope bytes)
+    -- the envelope that was opened
+    open-as : o .answer ≡ 0 → (e : Envelope) × IsOpen bytes o e × (readAs type body bytes ≡ spoken e (fileOf type body (e .signed)))
+    unfolding after
+    open-as z = go (readEnvelope bytes) w (by-envelope bytes)
       where
-        header-of : (e : Envelope) (h : Option Header) → header type (e .signed) ≡ h → Heads bytes r (headed e h) → readAs type body bytes ≡ spoken e (fileOf type body (e .signed))
-            → RefusedAs bytes r
-        header-of e none q w i = (badForm, w, i ∙ rw (← no-file type body (e .signed) (sym q)) refl)
-        header-of e (some h) q w i = absurd (n (w .answer))
+        go : (e : Read Envelope) → Opens bytes o e → readAs type body bytes ≡ after e
+            → (e : Envelope) × IsOpen bytes o e × (readAs type body bytes ≡ spoken e (fileOf type body (e .signed)))
+        go (refused f) w i = absurd (fault-refuses f (sym (w .answer) ∙ z))
+        go (says e ks) w i = (e, w, i)
 
-        envelope-of : (e : Read Envelope) → Heads bytes r (headedBy type e) → readAs type body bytes ≡ after e → RefusedAs bytes r
-        envelope-of (refused f) w i = (f, w, i)
-        envelope-of (says e ks) w i = header-of e (header type (e .signed)) refl w i
+    module _ (z : o .answer ≡ 0) where
+      lacks-header : Takes bytes (o .start) (header type) none → readAs type body bytes ≡ refused badForm
+      unfolding spoken
+      lacks-header t =
+          let d = open-as z in
+          d .2 ∙ rw (← no-file type body (d .0 .signed) (t (d .0 .signed) (d .1 .stands))) refl
+
+      lacks-body : Takes bytes (o .start) body none → readAs type body bytes ≡ refused badForm
+      unfolding spoken
+      lacks-body t =
+          let d = open-as z in
+          d .2 ∙ rw (← no-body type body (d .0 .signed) (t (d .0 .signed) (d .1 .stands))) refl
+
+      module _ (h : Header) (t : Takes bytes (o .start) (header type) (some h)) (b : A) (u : Takes bytes (o .start) body (some b)) where
+        has-file : (e : Envelope) × IsOpen bytes o e × ((spec : Bytes) × (knownSpec spec ≡ h .known) × (readAs type body bytes ≡ spoken e (some (file spec (h .version) (h .expires) b))))
+        unfolding bind
+        has-file =
+            let d = open-as z in
+            let f = file-by type body (d .0 .signed) h (t (d .0 .signed) (d .1 .stands)) in
+            let k : fileOf type body (d .0 .signed) ≡ some (file (f .0) (h .version) (h .expires) b) = f .2 ∙ rw (← u (d .0 .signed) (d .1 .stands)) refl in
+            (d .0, d .1, (f .0, f .1, d .2 ∙ rw k refl))
+
+        other-spec : h .known ≡ false → readAs type body bytes ≡ refused otherSpec
+        other-spec k = let f = has-file in f .2 .2 ∙ spoken-other (f .0) (f .2 .0) (h .version) (h .expires) b (f .2 .1 ∙ k)
+
+        says-file : h .known ≡ true → (spec : Bytes) × (readAs type body bytes ≡ says (file spec (h .version) (h .expires) b) (viewEntries (o .entries)))
+        says-file k = let f = has-file in (f .2 .0, f .2 .2 ∙ spoken-known (f .0) (f .2 .0) (h .version) (h .expires) b (f .2 .1 ∙ k) _ (f .1 .keyids))
 
 -- ## The ways out of a function that reads a role's file, of which `keepIt` is kept
 
-module _ {A B : Type 0} (type : Bytes) (body : Json → Option A) (keepIt : File A → B) (bytes : Bytes) (r : RoleFile) (w : Heads bytes r (headedBy type (readEnvelope bytes))) (n : ℕ) (b : B) (es : List Bytes) where
+module _ {A B : Type 0} (type : Bytes) (body : Json → Option A) (keepIt : File A → B) (bytes : Bytes) (o : Opened) (w : Opens bytes o (readEnvelope bytes)) (n : ℕ) (b : B) (es : List Bytes) where
   said-refused : (f : Fault) → readAs type body bytes ≡ refused f → n ≡ faultNumber f
       → viewRead n b es ≡ some (kept keepIt (readAs type body bytes))
   unfolding viewRead kept bind
   said-refused f s e = rw (s, e, ne-eqb (faultNumber f) 0 (fault-refuses f), fault-number f)
 
-  pub role-refused : (r .answer ≡ 0 → ⊥) → n ≡ r .answer → viewRead n b es ≡ some (kept keepIt (readAs type body bytes))
-  role-refused x e = let d = refused-as type body bytes r w x in said-refused (d .0) (d .2) (e ∙ d .1)
+  pub role-refused : (o .answer ≡ 0 → ⊥) → n ≡ o .answer → viewRead n b es ≡ some (kept keepIt (readAs type body bytes))
+  role-refused x e = let d = refused-as type body bytes o w x in said-refused (d .0) (d .2) (e ∙ d .1)
 
-  module _ (z : r .answer ≡ 0) (ok : Bool) (a : A) (t : Takes bytes (r .start) body (keep ok a)) where
+  module _ (z : o .answer ≡ 0) (ok : Bool) (a : A) (t : Takes bytes (o .start) body (keep ok a)) where
     pub role-broken : ok ≡ false → n ≡ 3 → viewRead n b es ≡ some (kept keepIt (readAs type body bytes))
     unfolding faultNumber
-    role-broken o e =
-        let d = ended type body bytes r w z in
-        let s = ending-none type body (d .spec) r (body (d .signed)) (sym (t (d .signed) (d .stands)) ∙ cut ok a o) in
-        said-refused badForm (d .is ∙ s) e
+    role-broken q e = said-refused badForm (lacks-body type body bytes o w z (λ v h. sym (cut ok a q) ∙ t v h)) e
 
-    module _ (o : ok ≡ true) where
-      pub role-other : r .known ≡ false → n ≡ 4 → viewRead n b es ≡ some (kept keepIt (readAs type body bytes))
+    module _ (head : Bool) (h : Header) (u : Takes bytes (o .start) (header type) (keep head h)) where
+      pub role-headless : head ≡ false → n ≡ 3 → viewRead n b es ≡ some (kept keepIt (readAs type body bytes))
       unfolding faultNumber
-      role-other k e =
-          let d = ended type body bytes r w z in
-          let s = ending-other type body (d .spec) r (body (d .signed)) a (sym (t (d .signed) (d .stands)) ∙ held ok a o) k in
-          said-refused otherSpec (d .is ∙ s) e
+      role-headless q e = said-refused badForm (lacks-header type body bytes o w z (λ v x. sym (cut head h q) ∙ u v x)) e
 
-      pub role-says : r .known ≡ true → n ≡ 0 → ((spec : Bytes) → b ≡ keepIt (file spec (r .version) (r .expires .seconds) a))
-          → es ≡ viewEntries (r .entries) → viewRead n b es ≡ some (kept keepIt (readAs type body bytes))
-      unfolding viewRead kept
-      role-says k e m f =
-          let d = ended type body bytes r w z in
-          let s : readAs type body bytes ≡ says (file (d .spec) (r .version) (r .expires .seconds) a) (viewEntries (r .entries)) =
-          d .is ∙ ending-says type body (d .spec) r (body (d .signed)) a (sym (t (d .signed) (d .stands)) ∙ held ok a o) k
-          in rw (s, e, m (d .spec), f)
+      module _ (p : ok ≡ true) (q : head ≡ true) where
+        header-there : Takes bytes (o .start) (header type) (some h)
+        header-there v x = sym (held head h q) ∙ u v x
+
+        body-there : Takes bytes (o .start) body (some a)
+        body-there v x = sym (held ok a p) ∙ t v x
+
+        pub role-other : h .known ≡ false → n ≡ 4 → viewRead n b es ≡ some (kept keepIt (readAs type body bytes))
+        unfolding faultNumber
+        role-other k e = said-refused otherSpec (other-spec type body bytes o w z h header-there a body-there k) e
+
+        pub role-says : h .known ≡ true → n ≡ 0 → ((spec : Bytes) → b ≡ keepIt (file spec (h .version) (h .expires) a))
+            → es ≡ viewEntries (o .entries) → viewRead n b es ≡ some (kept keepIt (readAs type body bytes))
+        unfolding viewRead kept
+        role-says k e m f =
+            let s = says-file type body bytes o w z h header-there a body-there k in
+            let y : viewRead n b es ≡ some (says b es) = rw e refl in
+            y ∙ ap (λ (x : B). some (says x es)) (m (s .0)) ∙ ap (λ (ks : List Bytes). some (says (keepIt (file (s .0) (h .version) (h .expires) a)) ks)) f
+            ∙ sym (ap (λ (x : Read (File A)). some (kept keepIt x)) (s .1))

@@ -15,11 +15,16 @@ use Rattle.rules.specs.Forms as forms
 use Rattle.rules.specs.Reading.{keyidsOf}
 use Rattle.records.specs.View.{viewId, viewEntries}
 use Rattle.envelope.specs.declared.EntryAt.{EntryAt}
+use Rattle.envelope.specs.declared.KeyidAt.{KeyidAt}
 use Rattle.envelope.specs.declared.EntriesAt.{EntriesAt}
 use Rattle.envelope.specs.declared.Spec.{Spec}
 use Rattle.envelope.specs.declared.HeaderAt.{HeaderAt}
 
 -- ## Entries
+
+-- the keyid of an entry
+unfoldable pub keyidOf : Json → Option Bytes
+keyidOf v = forms.entry v >>= λ e. some (e .keyid)
 
 -- the keyids of the entries, in file order
 unfoldable pub keyids : Json → Option (List Bytes)
@@ -27,6 +32,9 @@ keyids v = forms.entries v >>= λ es. some (keyidsOf es)
 
 unfoldable pub viewEntry : EntryAt → Option rules.Entry
 viewEntry r = keep (r .ok) (record { keyid = viewId (r .keyid); sig = window (r .sig) 0 signatureSize })
+
+unfoldable pub viewKeyid : KeyidAt → Option Bytes
+viewKeyid r = keep (r .ok) (viewId (r .keyid))
 
 unfoldable pub viewEntriesAt : EntriesAt → Option (List Bytes)
 viewEntriesAt r = keep (r .ok) (viewEntries (r .entries))

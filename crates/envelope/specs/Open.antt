@@ -1,4 +1,4 @@
--- What an opened file says: its envelope, and then its header.
+-- What an opened file says, and a role's file when it is read.
 use mathlib.Core.Path.{_≡_}
 use mathlib.Core.Option.{Option, none, some}
 use mathlib.Core.List.{List, []}
@@ -16,9 +16,7 @@ use Rattle.rules.specs.Forms.{Envelope}
 use Rattle.rules.specs.Reading.{keyidsOf}
 use Rattle.rules.specs.Steps.{faultNumber}
 use Rattle.records.specs.View.{viewEntries}
-use Rattle.envelope.specs.Header.{Header, header}
 use Rattle.envelope.specs.declared.Opened.{Opened}
-use Rattle.envelope.specs.declared.RoleFile.{RoleFile}
 
 -- ## The envelope
 
@@ -43,32 +41,6 @@ pub record IsShut (r : Opened) (number : ℕ) : Type 0 where
 abbrev pub Opens : Bytes → Opened → Read Envelope → Type 0
 Opens file r (refused f) = IsShut r (faultNumber f)
 Opens file r (says e ks) = IsOpen file r e
-
--- ## A role's file, up to its body
-
-pub record Headed : Type 0 where
-  pub header : Header
-  pub signed : Json
-
-unfoldable pub headed : Envelope → Option Header → Read Headed
-headed e none = refused badForm
-headed e (some h) = says (record { header = h; signed = e .signed }) (keyidsOf (e .entries))
-
-unfoldable pub headedBy : Bytes → Read Envelope → Read Headed
-headedBy type (refused f) = refused f
-headedBy type (says e ks) = headed e (header type (e .signed))
-
-pub record IsHeaded (file : Bytes) (r : RoleFile) (h : Headed) (ks : List Bytes) : Type 0 where
-  pub answer : r .answer ≡ 0
-  pub known : r .known ≡ h .header .known
-  pub version : r .version ≡ h .header .version
-  pub expires : r .expires .seconds ≡ h .header .expires
-  pub keyids : viewEntries (r .entries) ≡ ks
-  pub stands : Stands file (r .start) (h .signed)
-
-abbrev pub Heads : Bytes → RoleFile → Read Headed → Type 0
-Heads file r (refused f) = r .answer ≡ faultNumber f
-Heads file r (says h ks) = IsHeaded file r h ks
 
 -- ## A role's file, read: the refusal of that number, or what it says
 

@@ -5,16 +5,18 @@ ghost use lib.ListN.{drop, take};
 ghost use Rattle.base.specs.Bytes.{bytes, same};
 ghost use Rattle.json.specs.Read.{raw};
 ghost use Rattle.json.specs.Fields.{keep};
-ghost use Rattle.lookup.specs.Place.{Takes};
-ghost use Rattle.rules.specs.Take.{must};
+ghost use Rattle.lookup.specs.Place.{Takes, KnownEnd};
+ghost use Rattle.lookup.specs.declared.Found.the-variants.{Nothing};
 ghost use Rattle.rules.specs.Forms.{entry, knownSpec};
 ghost use Rattle.rules.specs.Reading.{readEnvelope};
-ghost use Rattle.envelope.specs.Header.{keyids, viewEntry, viewEntriesAt, specKnown, header, viewSpec, viewHeader};
-ghost use Rattle.envelope.specs.Open.{object, Opens, IsShut, headedBy, Heads};
+ghost use Rattle.envelope.specs.Header.{keyidOf, keyids, viewEntry, viewKeyid, viewEntriesAt, specKnown, header, viewSpec, viewHeader};
+ghost use Rattle.forms.specs.Member.{TakesMust};
+ghost use Rattle.envelope.specs.Open.{object, Opens, IsShut};
 use date::Date;
 use date::Time;
 use json::Char;
 use lookup::Element;
+use lookup::Extent;
 use lookup::Found;
 use lookup::Member;
 use lookup::Number;
@@ -32,43 +34,87 @@ pub const OTHER_SPEC: u8 = 4;
 
 // ---- Signature entries
 
+// An entry, and where it ends.
 pub struct EntryAt {
     pub ok: bool,
     pub keyid: Id,
     pub sig: [u8; 64],
+    pub end: Found,
 }
 
 fn no_entry() -> EntryAt
-    ensures { λ r. ⌜ viewEntry r ≡ none ⌝ }
+    ensures { λ r. ⌜ (viewEntry r ≡ none) × (r .end ≡ Nothing) ⌝ }
 {
     EntryAt {
         ok: false,
         keyid: Id { bytes: [0u8; 32] },
         sig: [0u8; 64],
+        end: Found::Nothing,
     }
 }
 
 // "keyid" and "sig".
 pub fn entry_at(s: &[u8], at: usize) -> EntryAt
-    ensures { λ r. ⌜ Takes (now (s .entry)) at entry (viewEntry r) ⌝ }
+    ensures { λ r. ⌜ Takes (now (s .entry)) at entry (viewEntry r) × KnownEnd (now (s .entry)) at (r .end) ⌝ }
 {
-    let keyid = forms::id_field(s, at, b"keyid");
+    let m = lookup::find_members(s, at, b"keyid", b"sig", b"", b"", lookup::no_extent());
+    let first = m.first;
+    let second = m.second;
+    let end = m.end;
+    let keyid = forms::id_field(s, first);
     if !keyid.ok {
         return no_entry();
     }
-    let sig = forms::sig_field(s, at);
+    let sig = forms::sig_field(s, second);
     let id = keyid.id;
     let bytes = sig.bytes;
     EntryAt {
         ok: sig.ok,
         keyid: id,
         sig: bytes,
+        end,
     }
 }
 
+// An entry's keyid, and where the entry ends.
+pub struct KeyidAt {
+    pub ok: bool,
+    pub keyid: Id,
+    pub end: Found,
+}
+
+fn no_keyid() -> KeyidAt
+    ensures { λ r. ⌜ (viewKeyid r ≡ none) × (r .end ≡ Nothing) ⌝ }
+{
+    KeyidAt {
+        ok: false,
+        keyid: Id { bytes: [0u8; 32] },
+        end: Found::Nothing,
+    }
+}
+
+// "keyid", where "sig" has its form: its bytes are not asked for.
+fn keyid_at(s: &[u8], at: usize) -> KeyidAt
+    ensures { λ r. ⌜ Takes (now (s .entry)) at keyidOf (viewKeyid r) × KnownEnd (now (s .entry)) at (r .end) ⌝ }
+{
+    let m = lookup::find_members(s, at, b"keyid", b"sig", b"", b"", lookup::no_extent());
+    let first = m.first;
+    let second = m.second;
+    let end = m.end;
+    let read = forms::id_field(s, first);
+    if !read.ok {
+        return no_keyid();
+    }
+    let ok = forms::has_sig_field(s, second);
+    let keyid = read.id;
+    KeyidAt { ok, keyid, end }
+}
+
+// The entries, and where they end.
 pub struct EntriesAt {
     pub ok: bool,
     pub entries: Entries,
+    pub end: Found,
 }
 
 // No entries, for a refusal.
@@ -82,17 +128,18 @@ pub fn no_ids() -> Entries
 }
 
 fn no_entries() -> EntriesAt
-    ensures { λ r. ⌜ viewEntriesAt r ≡ none ⌝ }
+    ensures { λ r. ⌜ (viewEntriesAt r ≡ none) × (r .end ≡ Nothing) ⌝ }
 {
     EntriesAt {
         ok: false,
         entries: no_ids(),
+        end: Found::Nothing,
     }
 }
 
 // The keyids of at most 16 entries.
 pub fn entries_at(s: &[u8], at: usize) -> EntriesAt
-    ensures { λ r. ⌜ Takes (now (s .entry)) at keyids (viewEntriesAt r) ⌝ }
+    ensures { λ r. ⌜ Takes (now (s .entry)) at keyids (viewEntriesAt r) × KnownEnd (now (s .entry)) at (r .end) ⌝ }
 {
     let mut ids = [Id { bytes: [0u8; 32] }; records::MAX_ENTRIES];
     let mut n: usize = 0;
@@ -103,37 +150,26 @@ pub fn entries_at(s: &[u8], at: usize) -> EntriesAt
                 if records::MAX_ENTRIES <= n {
                     return no_entries();
                 }
-                let entry = entry_at(s, i);
+                let entry = keyid_at(s, i);
                 if !entry.ok {
                     return no_entries();
                 }
                 let keyid = entry.keyid;
                 ids[n] = keyid;
                 n += 1;
-                e = lookup::next_element(s, i);
+                let end = entry.end;
+                e = lookup::next_element_by(s, i, end);
             }
             Element::NoArray => {
                 return no_entries();
             }
-            Element::End => {
+            Element::End(past) => {
                 return EntriesAt {
                     ok: true,
                     entries: Entries { count: n, ids },
+                    end: Found::At(past),
                 };
             }
-        }
-    }
-}
-
-fn entries_field(s: &[u8], at: usize) -> EntriesAt
-    ensures { λ r. ⌜ Takes (now (s .entry)) at (must (bytes "signatures") keyids) (viewEntriesAt r) ⌝ }
-{
-    match lookup::find_member(s, at, b"signatures") {
-        Found::Nothing => {
-            return no_entries();
-        }
-        Found::At(x) => {
-            return entries_at(s, x);
         }
     }
 }
@@ -196,10 +232,10 @@ fn spec_at(s: &[u8], at: usize) -> Spec
     }
 }
 
-fn spec_field(s: &[u8], at: usize) -> Spec
-    ensures { λ r. ⌜ Takes (now (s .entry)) at (must (bytes "spec_version") specKnown) (viewSpec r) ⌝ }
+fn spec_field(s: &[u8], found: Found) -> Spec
+    ensures { λ r. ⌜ TakesMust (now (s .entry)) found specKnown (viewSpec r) ⌝ }
 {
-    match lookup::find_member(s, at, b"spec_version") {
+    match found {
         Found::Nothing => {
             return Spec {
                 ok: false,
@@ -230,22 +266,35 @@ fn no_header() -> HeaderAt
     }
 }
 
-// "_type" with its name, "spec_version", "version", "expires".
-pub fn header_at(s: &[u8], at: usize, kind: &[u8]) -> HeaderAt
-    ensures { λ r. ⌜ Takes (now (s .entry)) at (header (now (kind .entry))) (viewHeader r) ⌝ }
+// "_type" with its name, "spec_version", "version", "expires". The end of the body, which stands among them, may be known.
+pub fn header_at(s: &[u8], at: usize, kind: &[u8], body: Extent) -> HeaderAt
+    ensures { λ r. ⌜ (KnownEnd (now (s .entry)) (body .at) (body .end) → Takes (now (s .entry)) at (header (now (kind .entry))) (viewHeader r)) ⌝ }
 {
-    if !forms::word_field(s, at, b"_type", kind) {
+    let m = lookup::find_members(
+        s,
+        at,
+        b"_type",
+        b"spec_version",
+        b"version",
+        b"expires",
+        body,
+    );
+    let first = m.first;
+    let second = m.second;
+    let third = m.third;
+    let fourth = m.fourth;
+    if !forms::word_field(s, first, kind) {
         return no_header();
     }
-    let spec = spec_field(s, at);
+    let spec = spec_field(s, second);
     if !spec.ok {
         return no_header();
     }
-    match forms::version_at(s, at) {
+    match forms::version_field(s, third) {
         Number::No => {
             return no_header();
         }
-        Number::Is(version) => match forms::date_field(s, at) {
+        Number::Is(version) => match forms::date_field(s, fourth) {
             Date::Bad => {
                 return no_header();
             }
@@ -270,7 +319,7 @@ fn is_object(s: &[u8], at: usize) -> bool
         Member::NoObject => {
             return false;
         }
-        Member::End => {
+        Member::End(_) => {
             return true;
         }
         Member::At { name: _, value: _ } => {
@@ -306,72 +355,32 @@ pub fn open_envelope(file: &[u8]) -> Opened
     if !json::is_canonical(file) {
         return shut(NOT_TEXT);
     }
-    let read = entries_field(file, 0);
-    if !read.ok {
-        return shut(BAD_FORM);
-    }
-    match lookup::find_member(file, 0, b"signed") {
+    match lookup::find_member(file, 0, b"signatures") {
         Found::Nothing => {
             return shut(BAD_FORM);
         }
-        Found::At(start) => {
-            if !is_object(file, start) {
+        Found::At(x) => {
+            let read = entries_at(file, x);
+            if !read.ok {
                 return shut(BAD_FORM);
             }
-            let entries = read.entries;
-            return Opened {
-                answer: 0,
-                start,
-                entries,
-            };
+            let end = read.end;
+            match lookup::find_member_by(file, 0, b"signed", Extent { at: x, end }) {
+                Found::Nothing => {
+                    return shut(BAD_FORM);
+                }
+                Found::At(start) => {
+                    if !is_object(file, start) {
+                        return shut(BAD_FORM);
+                    }
+                    let entries = read.entries;
+                    return Opened {
+                        answer: 0,
+                        start,
+                        entries,
+                    };
+                }
+            }
         }
-    }
-}
-
-// A role's file up to its body: the body is read in the object at `start`.
-pub struct RoleFile {
-    pub answer: u8,
-    pub known: bool,
-    pub version: u64,
-    pub expires: Time,
-    pub start: usize,
-    pub entries: Entries,
-}
-
-fn refused(answer: u8) -> RoleFile
-    ensures { λ r. ⌜ r .answer ≡ answer ⌝ }
-{
-    RoleFile {
-        answer,
-        known: false,
-        version: 0,
-        expires: Time { seconds: 0 },
-        start: 0,
-        entries: no_ids(),
-    }
-}
-
-// 3 before 4: whether the spec_version is known is told, and asked when the body was read.
-pub fn role_in(file: &[u8], kind: &[u8]) -> RoleFile
-    ensures { λ r. ⌜ Heads (now (file .entry)) r (headedBy (now (kind .entry)) (readEnvelope (now (file .entry)))) ⌝ }
-{
-    let opened = open_envelope(file);
-    if opened.answer != 0 {
-        return refused(opened.answer);
-    }
-    let start = opened.start;
-    let header = header_at(file, start, kind);
-    if !header.ok {
-        return refused(BAD_FORM);
-    }
-    let expires = header.expires;
-    let entries = opened.entries;
-    RoleFile {
-        answer: 0,
-        known: header.known,
-        version: header.version,
-        expires,
-        start,
-        entries,
     }
 }

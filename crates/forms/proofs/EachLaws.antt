@@ -112,14 +112,14 @@ module _ {A : Type 0} (f : Json → Option A) where
     -- the elements that are left, from e on, decide the whole
     abbrev pub ItemsWalk : Element → ℕ → List A → Option (List A) → Type 0
     ItemsWalk element.NoArray n acc whole = whole ≡ none
-    ItemsWalk element.End n acc whole = whole ≡ left lo hi n acc []
+    ItemsWalk (element.End e) n acc whole = whole ≡ left lo hi n acc []
     ItemsWalk (element.At i) n acc whole =
-        (v : Json) × (vs : Items) × ItemsLeft s (element.At i) (icons v vs) × (whole ≡ left lo hi n acc (f v ∷ said vs))
+        (v : Json) × (vs : Items) × ((rest : Bytes) × ItemsLeft s rest (element.At i) (icons v vs)) × (whole ≡ left lo hi n acc (f v ∷ said vs))
 
-    items-walk : {e : Element} {xs : Items} (n : ℕ) (acc : List A) → ItemsLeft s e xs → ItemsWalk e n acc (left lo hi n acc (said xs))
+    items-walk : {rest : Bytes} {e : Element} {xs : Items} (n : ℕ) (acc : List A) → ItemsLeft s rest e xs → ItemsWalk e n acc (left lo hi n acc (said xs))
     unfolding said
-    items-walk n acc items-end = refl
-    items-walk n acc (items-at {v = v} {vs = vs} rest t g) = (v, vs, items-at rest t g, refl)
+    items-walk n acc (items-end t) = refl
+    items-walk {rest} n acc (items-at {v = v} {vs = vs} t g) = (v, vs, (rest, items-at t g), refl)
 
     pub items-first : {p : ℕ} (e : Element) → FirstElement s p e → (v : Json) → Stands s p v → ItemsWalk e 0 [] (eachItem lo hi f v)
     unfolding eachItem bind keep
@@ -129,7 +129,7 @@ module _ {A : Type 0} (f : Json → Option A) where
         kept true xs = said-each xs
         kept false xs = refl
 
-        go : (o : Option Items) → ItemsOf s e o → ItemsWalk e 0 [] (o >>= λ xs. keep (leb lo (size xs) && leb (size xs) hi) xs >>= each f)
+        go : (o : Option Items) → ItemsOf s (h .rest) e o → ItemsWalk e 0 [] (o >>= λ xs. keep (leb lo (size xs) && leb (size xs) hi) xs >>= each f)
         go none q = rw q refl
         go (some xs) l = rw (kept (leb lo (size xs) && leb (size xs) hi) xs, said-size xs, left-all lo hi (said xs)) (items-walk 0 [] l)
 
@@ -137,11 +137,11 @@ module _ {A : Type 0} (f : Json → Option A) where
       pub items-none : e ≡ element.NoArray → none ≡ whole
       items-none q = sym (rw q at w)
 
-      pub items-few : e ≡ element.End → n < lo → none ≡ whole
-      items-few q h = sym (rw q at w ∙ left-few lo hi n acc h)
+      pub items-few : (j : ℕ) → e ≡ element.End j → n < lo → none ≡ whole
+      items-few j q h = sym (rw q at w ∙ left-few lo hi n acc h)
 
-      pub items-over : e ≡ element.End → lo ≤ n → n ≤ hi → some acc ≡ whole
-      items-over q l h = sym (rw q at w ∙ left-over lo hi n acc l h)
+      pub items-over : (j : ℕ) → e ≡ element.End j → lo ≤ n → n ≤ hi → some acc ≡ whole
+      items-over j q l h = sym (rw q at w ∙ left-over lo hi n acc l h)
 
       module _ (i : ℕ) (q : e ≡ element.At i) where
         here : ItemsWalk (element.At i) n acc whole
@@ -151,12 +151,12 @@ module _ {A : Type 0} (f : Json → Option A) where
         items-full h = sym (here .3 ∙ left-full lo hi n acc _ _ h)
 
         pub items-broken : Takes s i f none → none ≡ whole
-        items-broken t = sym (here .3 ∙ left-broken lo hi n acc _ _ (sym (t (here .0) (item-stands (here .2)))))
+        items-broken t = sym (here .3 ∙ left-broken lo hi n acc _ _ (sym (t (here .0) (item-stands (here .2 .1)))))
 
         pub items-next : (a : A) → Takes s i f (some a) → (e′ : Element) → NextElement s i e′ → ItemsWalk e′ (n + 1) (acc ++ (a ∷ [])) whole
         items-next a t e′ x =
-            rw (here .3, left-next lo hi n acc (f (here .0)) (said (here .1)) a (sym (t (here .0) (item-stands (here .2)))))
-            (items-walk (n + 1) (acc ++ (a ∷ [])) (x .means (here .0) (here .1) (here .2)))
+            rw (here .3, left-next lo hi n acc (f (here .0)) (said (here .1)) a (sym (t (here .0) (item-stands (here .2 .1)))))
+            (items-walk (n + 1) (acc ++ (a ∷ [])) (x .means (here .0) (here .1) (here .2 .1)))
 
 -- ## Members of an object
 
@@ -178,14 +178,14 @@ module _ {A : Type 0} (f : Bytes → Json → Option A) where
   module _ (lo hi : ℕ) (s : Bytes) where
     abbrev pub MembersWalk : Member → ℕ → List A → Option (List A) → Type 0
     MembersWalk member.NoObject n acc whole = whole ≡ none
-    MembersWalk member.End n acc whole = whole ≡ left lo hi n acc []
+    MembersWalk (member.End e) n acc whole = whole ≡ left lo hi n acc []
     MembersWalk (member.At i j) n acc whole =
-        (k : Bytes) × (v : Json) × (ms : Members) × MembersLeft s (member.At i j) (mcons k v ms) × (whole ≡ left lo hi n acc (f k v ∷ named ms))
+        (k : Bytes) × (v : Json) × (ms : Members) × ((rest : Bytes) × MembersLeft s rest (member.At i j) (mcons k v ms)) × (whole ≡ left lo hi n acc (f k v ∷ named ms))
 
-    members-walk : {m : Member} {ms : Members} (n : ℕ) (acc : List A) → MembersLeft s m ms → MembersWalk m n acc (left lo hi n acc (named ms))
+    members-walk : {rest : Bytes} {m : Member} {ms : Members} (n : ℕ) (acc : List A) → MembersLeft s rest m ms → MembersWalk m n acc (left lo hi n acc (named ms))
     unfolding named
-    members-walk n acc members-end = refl
-    members-walk n acc (members-at {n = k} {v = v} {ms = ms} rest t u g) = (k, v, ms, members-at rest t u g, refl)
+    members-walk n acc (members-end t) = refl
+    members-walk {rest} n acc (members-at {n = k} {v = v} {ms = ms} t u g) = (k, v, ms, (rest, members-at t u g), refl)
 
     pub members-first : {p : ℕ} (m : Member) → FirstMember s p m → (v : Json) → Stands s p v → MembersWalk m 0 [] (eachMember lo hi f v)
     unfolding eachMember bind keep
@@ -195,7 +195,7 @@ module _ {A : Type 0} (f : Bytes → Json → Option A) where
         kept true ms = named-each ms
         kept false ms = refl
 
-        go : (o : Option Members) → MembersOf s m o → MembersWalk m 0 [] (o >>= λ ms. keep (leb lo (count ms) && leb (count ms) hi) ms >>= eachNamed f)
+        go : (o : Option Members) → MembersOf s (h .rest) m o → MembersWalk m 0 [] (o >>= λ ms. keep (leb lo (count ms) && leb (count ms) hi) ms >>= eachNamed f)
         go none q = rw q refl
         go (some ms) l = rw (kept (leb lo (count ms) && leb (count ms) hi) ms, named-count ms, left-all lo hi (named ms)) (members-walk 0 [] l)
 
@@ -203,11 +203,11 @@ module _ {A : Type 0} (f : Bytes → Json → Option A) where
       pub members-none : m ≡ member.NoObject → none ≡ whole
       members-none q = sym (rw q at w)
 
-      pub members-few : m ≡ member.End → n < lo → none ≡ whole
-      members-few q h = sym (rw q at w ∙ left-few lo hi n acc h)
+      pub members-few : (e : ℕ) → m ≡ member.End e → n < lo → none ≡ whole
+      members-few e q h = sym (rw q at w ∙ left-few lo hi n acc h)
 
-      pub members-over : m ≡ member.End → lo ≤ n → n ≤ hi → some acc ≡ whole
-      members-over q l h = sym (rw q at w ∙ left-over lo hi n acc l h)
+      pub members-over : (e : ℕ) → m ≡ member.End e → lo ≤ n → n ≤ hi → some acc ≡ whole
+      members-over e q l h = sym (rw q at w ∙ left-over lo hi n acc l h)
 
       -- the name is read at i, the value stands at j
       module _ (i j : ℕ) (q : m ≡ member.At i j) where
@@ -215,7 +215,7 @@ module _ {A : Type 0} (f : Bytes → Json → Option A) where
         there = rw q at w
 
         said-there : (o : Option A) → Takes s j (f (raw (drop i s))) o → f (there .0) (there .1) ≡ o
-        said-there o t = ap (λ (k : Bytes). f k (there .1)) (sym (member-name (there .3))) ∙ sym (t (there .1) (member-stands (there .3)))
+        said-there o t = ap (λ (k : Bytes). f k (there .1)) (sym (member-name (there .3 .1))) ∙ sym (t (there .1) (member-stands (there .3 .1)))
 
         pub members-full : hi ≤ n → none ≡ whole
         members-full h = sym (there .4 ∙ left-full lo hi n acc _ _ h)
@@ -226,4 +226,4 @@ module _ {A : Type 0} (f : Bytes → Json → Option A) where
         pub members-next : (a : A) → Takes s j (f (raw (drop i s))) (some a) → (m′ : Member) → NextMember s j m′ → MembersWalk m′ (n + 1) (acc ++ (a ∷ [])) whole
         members-next a t m′ x =
             rw (there .4, left-next lo hi n acc (f (there .0) (there .1)) (named (there .2)) a (said-there (some a) t))
-            (members-walk (n + 1) (acc ++ (a ∷ [])) (x .means i (there .0) (there .1) (there .2) (there .3)))
+            (members-walk (n + 1) (acc ++ (a ∷ [])) (x .means i (there .0) (there .1) (there .2) (there .3 .1)))

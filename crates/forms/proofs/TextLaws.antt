@@ -24,6 +24,7 @@ use Rattle.lookup.proofs.StringLaws.{raw-bytes}
 use Rattle.date.specs.Calendar.{form, dateOf}
 use Rattle.date.proofs.FormLaws.{form-lengths}
 use Rattle.rules.specs.Take.{unhex}
+use Rattle.rules.proofs.OptionLaws.{none-not-some}
 use Rattle.forms.specs.View.{Fills}
 
 -- ## A buffer that is filled
@@ -124,6 +125,25 @@ unhex-plain n s i e l q zeros out ok z u k =
     let h = hex-parts n t (sym (u .answer ∙ rw z) ∙ k) .1 in
     let p : raw (drop i s) ≡ t = rw m (raw-hex s i (n * 2) q (rw m at h)) in
     unhex-undone n t zeros out ok z u ∙ ap (unhex n) (sym p)
+
+-- the same where only the form is asked
+pub hex-plain : (n : ℕ) (s : Bytes) (i e : ℕ) → e ≡ i + n * 2 → byteAt s (i + n * 2) ≡ 34 → isHex n (take (e - i) (drop i s)) ≡ true → isHex n (raw (drop i s)) ≡ true
+hex-plain n s i e l q k =
+    let t = take (e - i) (drop i s) in
+    let m : e - i ≡ n * 2 = omega arith in
+    let h = hex-parts n t k .1 in
+    let p : raw (drop i s) ≡ t = rw m (raw-hex s i (n * 2) q (rw m at h)) in
+    ap (isHex n) p ∙ k
+
+pub hex-kept : (n : ℕ) (b : Bool) (a t : Bytes) → keep b a ≡ unhex n t → b ≡ isHex n t
+unfolding unhex keep
+hex-kept n b a t e = go b (isHex n t) e
+  where
+    go : (b c : Bool) → keep b a ≡ keep c (undo t) → b ≡ c
+    go true true e = refl
+    go true false e = none-not-some (sym e)
+    go false true e = none-not-some e
+    go false false e = refl
 
 -- ## A date
 

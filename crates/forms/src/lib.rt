@@ -3,16 +3,18 @@
 ghost use mathlib.Core.Path.{_≡_};
 ghost use mathlib.Core.Option.{none};
 ghost use lib.ListN.{drop};
-ghost use Rattle.base.specs.Bytes.{bytes};
+ghost use Rattle.base.specs.Hex.{isHex};
 ghost use Rattle.json.specs.Read.{raw};
 ghost use Rattle.json.specs.Fields.{keep, number};
-ghost use Rattle.lookup.specs.Place.{Takes};
+ghost use Rattle.lookup.specs.Place.{Takes, KnownEnd};
+ghost use Rattle.lookup.specs.declared.Found.the-variants.{Nothing};
 ghost use Rattle.lookup.specs.Leaves.{viewNumber};
 ghost use Rattle.date.specs.Calendar.{dateOf};
 ghost use Rattle.date.specs.View.{viewDate};
-ghost use Rattle.rules.specs.Limits.{keySize, signatureSize};
-ghost use Rattle.rules.specs.Take.{must, may, word, unhex, hex, date as dateForm};
-ghost use Rattle.rules.specs.Forms.{version, sha256, listed as listedForm};
+ghost use Rattle.rules.specs.Limits.{keySize, signatureSize, maxVersion};
+ghost use Rattle.rules.specs.Take.{word, unhex, hex, date as dateForm};
+ghost use Rattle.rules.specs.Forms.{sha256, listed as listedForm};
+ghost use Rattle.forms.specs.Member.{signature, TakesMust, TakesMay};
 ghost use Rattle.forms.specs.View.{Fills, viewIdAt, viewSig, viewMayId, viewMayNumber, viewListedAt};
 use base::Bytes64;
 use date::Date;
@@ -120,6 +122,22 @@ fn sig_in(s: &[u8], i: usize) -> Bytes64
     undone
 }
 
+// Whether there are 128 digits: for readers who do not ask for the signature.
+fn has_sig(s: &[u8], i: usize) -> bool
+    ensures { λ r. ⌜ r ≡ isHex signatureSize (raw (drop i (now (s .entry)))) ⌝ }
+{
+    if base::byte_after(s, i, 128) != b'"' {
+        let escaped = sig_escaped(s, i);
+        return escaped.ok;
+    }
+    let e = i + 128;
+    if base::is_hex(&s[i..e], 64) {
+        return true;
+    }
+    let undone = sig_escaped(s, i);
+    undone.ok
+}
+
 pub fn id_at(s: &[u8], at: usize) -> IdAt
     ensures { λ r. ⌜ Takes (now (s .entry)) at (hex keySize) (viewIdAt r) ⌝ }
 {
@@ -146,11 +164,24 @@ fn sig_at(s: &[u8], at: usize) -> Bytes64
     }
 }
 
-// The member of that name, in the object at `at`.
-pub fn id_field(s: &[u8], at: usize, name: &[u8]) -> IdAt
-    ensures { λ r. ⌜ Takes (now (s .entry)) at (must (now (name .entry)) (hex keySize)) (viewIdAt r) ⌝ }
+fn has_sig_at(s: &[u8], at: usize) -> bool
+    ensures { λ r. ⌜ Takes (now (s .entry)) at signature (keep r tt) ⌝ }
 {
-    match lookup::find_member(s, at, name) {
+    match lookup::string_at(s, at) {
+        Found::Nothing => {
+            return false;
+        }
+        Found::At(i) => {
+            return has_sig(s, i);
+        }
+    }
+}
+
+// The member that was found: one that must be there. So for the other fields.
+pub fn id_field(s: &[u8], found: Found) -> IdAt
+    ensures { λ r. ⌜ TakesMust (now (s .entry)) found (hex keySize) (viewIdAt r) ⌝ }
+{
+    match found {
         Found::Nothing => {
             return no_id();
         }
@@ -160,10 +191,10 @@ pub fn id_field(s: &[u8], at: usize, name: &[u8]) -> IdAt
     }
 }
 
-pub fn sig_field(s: &[u8], at: usize) -> Bytes64
-    ensures { λ r. ⌜ Takes (now (s .entry)) at (must (bytes "sig") (hex signatureSize)) (viewSig r) ⌝ }
+pub fn sig_field(s: &[u8], found: Found) -> Bytes64
+    ensures { λ r. ⌜ TakesMust (now (s .entry)) found (hex signatureSize) (viewSig r) ⌝ }
 {
-    match lookup::find_member(s, at, b"sig") {
+    match found {
         Found::Nothing => {
             return no_sig();
         }
@@ -173,12 +204,26 @@ pub fn sig_field(s: &[u8], at: usize) -> Bytes64
     }
 }
 
+// Whether the member is a signature.
+pub fn has_sig_field(s: &[u8], found: Found) -> bool
+    ensures { λ r. ⌜ TakesMust (now (s .entry)) found signature (keep r tt) ⌝ }
+{
+    match found {
+        Found::Nothing => {
+            return false;
+        }
+        Found::At(x) => {
+            return has_sig_at(s, x);
+        }
+    }
+}
+
 // ---- Numbers
 
-pub fn number_field(s: &[u8], at: usize, name: &[u8], lo: u64, hi: u64) -> Number
-    ensures { λ r. ⌜ Takes (now (s .entry)) at (must (now (name .entry)) (number lo hi)) (viewNumber r) ⌝ }
+pub fn number_field(s: &[u8], found: Found, lo: u64, hi: u64) -> Number
+    ensures { λ r. ⌜ TakesMust (now (s .entry)) found (number lo hi) (viewNumber r) ⌝ }
 {
-    match lookup::find_member(s, at, name) {
+    match found {
         Found::Nothing => {
             return Number::No;
         }
@@ -195,10 +240,10 @@ pub struct MayNumber {
     pub value: u64,
 }
 
-pub fn number_may(s: &[u8], at: usize, name: &[u8], lo: u64, hi: u64) -> MayNumber
-    ensures { λ r. ⌜ Takes (now (s .entry)) at (may (now (name .entry)) (number lo hi)) (viewMayNumber r) ⌝ }
+fn number_may(s: &[u8], found: Found, lo: u64, hi: u64) -> MayNumber
+    ensures { λ r. ⌜ TakesMay (now (s .entry)) found (number lo hi) (viewMayNumber r) ⌝ }
 {
-    match lookup::find_member(s, at, name) {
+    match found {
         Found::Nothing => {
             return MayNumber {
                 ok: true,
@@ -226,10 +271,10 @@ pub fn number_may(s: &[u8], at: usize, name: &[u8], lo: u64, hi: u64) -> MayNumb
 }
 
 // "version" 1 to 2,147,483,647.
-pub fn version_at(s: &[u8], at: usize) -> Number
-    ensures { λ r. ⌜ Takes (now (s .entry)) at version (viewNumber r) ⌝ }
+pub fn version_field(s: &[u8], found: Found) -> Number
+    ensures { λ r. ⌜ TakesMust (now (s .entry)) found (number 1 maxVersion) (viewNumber r) ⌝ }
 {
-    number_field(s, at, b"version", 1, records::MAX_VERSION)
+    number_field(s, found, 1, records::MAX_VERSION)
 }
 
 // ---- Words and dates
@@ -247,11 +292,11 @@ fn word_at(s: &[u8], at: usize, k: &[u8]) -> bool
     }
 }
 
-// Whether the member of that name is the string `k`.
-pub fn word_field(s: &[u8], at: usize, name: &[u8], k: &[u8]) -> bool
-    ensures { λ r. ⌜ Takes (now (s .entry)) at (must (now (name .entry)) (word (now (k .entry)))) (keep r tt) ⌝ }
+// Whether the member is the string `k`.
+pub fn word_field(s: &[u8], found: Found, k: &[u8]) -> bool
+    ensures { λ r. ⌜ TakesMust (now (s .entry)) found (word (now (k .entry))) (keep r tt) ⌝ }
 {
-    match lookup::find_member(s, at, name) {
+    match found {
         Found::Nothing => {
             return false;
         }
@@ -284,11 +329,10 @@ fn date_at(s: &[u8], at: usize) -> Date
     }
 }
 
-// "expires".
-pub fn date_field(s: &[u8], at: usize) -> Date
-    ensures { λ r. ⌜ Takes (now (s .entry)) at (must (bytes "expires") dateForm) (viewDate r) ⌝ }
+pub fn date_field(s: &[u8], found: Found) -> Date
+    ensures { λ r. ⌜ TakesMust (now (s .entry)) found dateForm (viewDate r) ⌝ }
 {
-    match lookup::find_member(s, at, b"expires") {
+    match found {
         Found::Nothing => {
             return Date::Bad;
         }
@@ -300,17 +344,38 @@ pub fn date_field(s: &[u8], at: usize) -> Date
 
 // ---- What is said of a listed file
 
+// The "sha256" of the hashes at `at`.
+fn digest_at(s: &[u8], at: usize) -> IdAt
+    ensures { λ r. ⌜ Takes (now (s .entry)) at sha256 (viewIdAt r) ⌝ }
+{
+    id_field(s, lookup::find_member(s, at, b"sha256"))
+}
+
+// "hashes", required.
+pub fn digest_field(s: &[u8], found: Found) -> IdAt
+    ensures { λ r. ⌜ TakesMust (now (s .entry)) found sha256 (viewIdAt r) ⌝ }
+{
+    match found {
+        Found::Nothing => {
+            return no_id();
+        }
+        Found::At(x) => {
+            return digest_at(s, x);
+        }
+    }
+}
+
 pub struct MayId {
     pub ok: bool,
     pub given: bool,
     pub id: Id,
 }
 
-// "hashes", where it is there: its "sha256".
-pub fn digest_may(s: &[u8], at: usize) -> MayId
-    ensures { λ r. ⌜ Takes (now (s .entry)) at (may (bytes "hashes") sha256) (viewMayId r) ⌝ }
+// "hashes", where it is there.
+fn digest_may(s: &[u8], found: Found) -> MayId
+    ensures { λ r. ⌜ TakesMay (now (s .entry)) found sha256 (viewMayId r) ⌝ }
 {
-    match lookup::find_member(s, at, b"hashes") {
+    match found {
         Found::Nothing => {
             return MayId {
                 ok: true,
@@ -319,7 +384,7 @@ pub fn digest_may(s: &[u8], at: usize) -> MayId
             };
         }
         Found::At(x) => {
-            let digest = id_field(s, x, b"sha256");
+            let digest = digest_at(s, x);
             let id = digest.id;
             return MayId {
                 ok: digest.ok,
@@ -330,14 +395,16 @@ pub fn digest_may(s: &[u8], at: usize) -> MayId
     }
 }
 
+// What is said, and where it ends.
 pub struct ListedAt {
     pub ok: bool,
     pub listed: Listed,
+    pub end: Found,
 }
 
 // Nothing, for a form that is broken.
 pub fn no_listed() -> ListedAt
-    ensures { λ r. ⌜ viewListedAt r ≡ none ⌝ }
+    ensures { λ r. ⌜ (viewListedAt r ≡ none) × (r .end ≡ Nothing) ⌝ }
 {
     ListedAt {
         ok: false,
@@ -348,23 +415,37 @@ pub fn no_listed() -> ListedAt
             hashed: false,
             digest: Id { bytes: [0u8; 32] },
         },
+        end: Found::Nothing,
     }
 }
 
 // "version", and where they are given "length" and "hashes".
 pub fn listed_at(s: &[u8], at: usize) -> ListedAt
-    ensures { λ r. ⌜ Takes (now (s .entry)) at listedForm (viewListedAt r) ⌝ }
+    ensures { λ r. ⌜ Takes (now (s .entry)) at listedForm (viewListedAt r) × KnownEnd (now (s .entry)) at (r .end) ⌝ }
 {
-    match version_at(s, at) {
+    let m = lookup::find_members(
+        s,
+        at,
+        b"version",
+        b"length",
+        b"hashes",
+        b"",
+        lookup::no_extent(),
+    );
+    let first = m.first;
+    let second = m.second;
+    let third = m.third;
+    let end = m.end;
+    match version_field(s, first) {
         Number::No => {
             return no_listed();
         }
         Number::Is(version) => {
-            let length = number_may(s, at, b"length", 0, records::MAX_LENGTH);
+            let length = number_may(s, second, 0, records::MAX_LENGTH);
             if !length.ok {
                 return no_listed();
             }
-            let digest = digest_may(s, at);
+            let digest = digest_may(s, third);
             let id = digest.id;
             return ListedAt {
                 ok: digest.ok,
@@ -375,6 +456,7 @@ pub fn listed_at(s: &[u8], at: usize) -> ListedAt
                     hashed: digest.given,
                     digest: id,
                 },
+                end,
             };
         }
     }

@@ -21,8 +21,8 @@ use Rattle.inspect.specs.Elements.{elements, elementAt}
 -- o is the element at place n of those that are left at e
 abbrev pub NthLeft : Bytes → Element → ℕ → Option Json → Type 0
 NthLeft s NoArray n o = o ≡ none
-NthLeft s End n o = o ≡ none
-NthLeft s (At i) n o = (v : Json) × (vs : Items) × ItemsLeft s (At i) (icons v vs) × (o ≡ nth n (elements (icons v vs)))
+NthLeft s (End e) n o = o ≡ none
+NthLeft s (At i) n o = (v : Json) × (vs : Items) × ((rest : Bytes) × ItemsLeft s rest (At i) (icons v vs)) × (o ≡ nth n (elements (icons v vs)))
 
 nth-now : (v : Json) (vs : Items) (n : ℕ) → n ≡ 0 → nth n (elements (icons v vs)) ≡ some v
 unfolding nth elements
@@ -34,16 +34,16 @@ nth-later v vs n m k = rw k
 
 -- one turn of the loop: n elements are to be passed over before the one that is sought
 module _ (s : Bytes) where
-  left-nth : {e : Element} {xs : Items} (n : ℕ) → ItemsLeft s e xs → NthLeft s e n (nth n (elements xs))
+  left-nth : {rest : Bytes} {e : Element} {xs : Items} (n : ℕ) → ItemsLeft s rest e xs → NthLeft s e n (nth n (elements xs))
   unfolding nth elements
-  left-nth n items-end = refl
-  left-nth n (items-at {v = v} {vs = vs} rest t g) = (v, vs, items-at rest t g, refl)
+  left-nth n (items-end t) = refl
+  left-nth {rest} n (items-at {v = v} {vs = vs} t g) = (v, vs, (rest, items-at t g), refl)
 
   pub nth-first : {p : ℕ} (e : Element) → FirstElement s p e → (n : ℕ) (v : Json) → Stands s p v → NthLeft s e n (elementAt n v)
   unfolding elementAt bind
   nth-first e w n v h = go (items v) (w .means v h)
     where
-      go : (o : Option Items) → ItemsOf s e o → NthLeft s e n (o >>= λ xs. nth n (elements xs))
+      go : (o : Option Items) → ItemsOf s (h .rest) e o → NthLeft s e n (o >>= λ xs. nth n (elements xs))
       go none q = rw q refl
       go (some xs) l = left-nth n l
 
@@ -51,20 +51,20 @@ module _ (s : Bytes) where
     pub nth-none : e ≡ NoArray → PlaceOf s found.Nothing o
     nth-none q = rw q at w
 
-    pub nth-end : e ≡ End → PlaceOf s found.Nothing o
-    nth-end q = rw q at w
+    pub nth-end : (j : ℕ) → e ≡ End j → PlaceOf s found.Nothing o
+    nth-end j q = rw q at w
 
     module _ (i : ℕ) (q : e ≡ At i) where
       here : NthLeft s (At i) n o
       here = rw q at w
 
       pub nth-here : n ≡ 0 → PlaceOf s (found.At i) o
-      nth-here z = (here .0, here .3 ∙ nth-now (here .0) (here .1) n z, item-stands (here .2))
+      nth-here z = (here .0, here .3 ∙ nth-now (here .0) (here .1) n z, item-stands (here .2 .1))
 
       pub nth-next : (n ≡ 0 → ⊥) → (e′ : Element) → NextElement s i e′ → NthLeft s e′ (n - 1) o
       nth-next z e′ x =
           let k : n ≡ suc (n - 1) = omega arith in
-          rw (here .3 ∙ nth-later (here .0) (here .1) n (n - 1) k) (left-nth (n - 1) (x .means (here .0) (here .1) (here .2)))
+          rw (here .3 ∙ nth-later (here .0) (here .1) n (n - 1) k) (left-nth (n - 1) (x .means (here .0) (here .1) (here .2 .1)))
 
 -- ## In a member of an object
 

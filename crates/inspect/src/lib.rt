@@ -110,7 +110,7 @@ fn nth_element(s: &[u8], at: usize, place: usize) -> Found
             Element::NoArray => {
                 return Found::Nothing;
             }
-            Element::End => {
+            Element::End(_) => {
                 return Found::Nothing;
             }
         }

@@ -2,7 +2,6 @@ pub mod Rows
 pub mod KindLaws
 pub mod Place
 pub mod Chars
-pub mod PlainLaws
 pub mod Cases
 pub mod Rest
 pub mod Words
@@ -12,6 +11,8 @@ pub mod Says
 pub mod CharsLaws
 pub mod Numbers
 pub mod NameLaws
+pub mod PlainLaws
+pub mod SharedLaws
 pub mod Members
 pub mod NumberLaws
 pub mod Puts

@@ -102,6 +102,9 @@ mutual
       (λ _. says-also (λ (x : Bytes). c ∷ x) (chars-raw t 0 0 0 (λ n. absurd (n refl))) (λ bs r q. rw (esc-raw-cons, q)))
       (λ _. says-bad))
 
+pub raw-plain : (b : ℕ) (t : Bytes) → eqb b 34 ≡ false → eqb b 92 ≡ false → raw (b ∷ t) ≡ b ∷ raw t
+raw-plain b t e f = rw (raw-cons, e, f)
+
 -- ## Comparison, one byte at a time
 
 module _ (s t : Bytes) where

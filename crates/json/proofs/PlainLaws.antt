@@ -1,16 +1,19 @@
 -- Plain bytes of a string, many at a time: the string ends where it ends when it is read from behind them.
 use mathlib.Core.Path.{_≡_, refl, sym, ap, subst, _∙_}
-use mathlib.Core.Bool.{Bool, true, false, _&&_}
+use mathlib.Core.List.{_∷_}
+use mathlib.Core.Bool.{Bool, true, false, not, _&&_}
 use Prim.Native.Nat.{ℕ, zero, suc, _≤_, _<_, _+_}
 use native.Mathlib.Omega.{arith}
 use lib.ListN.{length, drop, getD}
-use lib.Dec.{ltb}
+use lib.Dec.{ltb, eqb}
 use borrow.Author.Tests.{ltb-true, ltb-false, eqb-false, not-true}
 use Rattle.base.specs.Bytes.{Bytes}
 use Rattle.base.proofs.TestLaws.{both}
-use Rattle.json.specs.Read.{endOf, readStr}
+use Rattle.base.proofs.PlaceLaws.{at-cons}
+use Rattle.json.specs.Read.{endOf, readStr, raw}
 use Rattle.json.specs.Strings.{plain, PlainRun}
 use Rattle.json.proofs.Chars as strings
+use Rattle.json.proofs.NameLaws.{raw-plain}
 
 -- a run with one byte more
 pub plain-more : (s : Bytes) (i k : ℕ) (all one : Bool) → one ≡ plain (getD s (i + k) 0) → (all ≡ true → PlainRun s i k) → all && one ≡ true → PlainRun s i (k + 1)
@@ -43,3 +46,12 @@ plain-run s i (suc n) h f =
     plain-run s i n (omega (arith, h)) (λ k l. f k (omega (arith, l)))
     ∙ plain-one s (i + n) (omega (arith, h)) (f n (omega arith))
     ∙ ap (λ (m : ℕ). endOf (length s) (readStr (drop m s))) e
+
+-- a plain byte is the first of what is read
+pub raw-first : (s : Bytes) (i : ℕ) → i < length s → plain (getD s i 0) ≡ true → raw (drop i s) ≡ getD s i 0 ∷ raw (drop (i + 1) s)
+unfolding plain
+raw-first s i h p =
+    let x = getD s i 0 in
+    let b = both ((ltb 31 x && ltb x 128) && not (eqb x 34)) (not (eqb x 92)) p in
+    let q = both (ltb 31 x && ltb x 128) (not (eqb x 34)) (b .0) in
+    ap raw (at-cons s i h) ∙ raw-plain _ _ (not-true _ (q .1)) (not-true _ (b .1))

@@ -21,3 +21,11 @@ plain b = ((ltb 31 b && ltb b 128) && not (eqb b 34)) && not (eqb b 92)
 -- n such bytes from place i on
 abbrev pub PlainRun : Bytes → ℕ → ℕ → Type 0
 PlainRun s i n = (k : ℕ) → k < n → plain (getD s (i + k) 0) ≡ true
+
+-- one plain byte, in two places
+unfoldable pub shared : ℕ → ℕ → Bool
+shared x y = plain x && eqb x y
+
+-- n such bytes from places i and j on
+abbrev pub SharedRun : Bytes → ℕ → ℕ → ℕ → Type 0
+SharedRun s i j n = (k : ℕ) → k < n → shared (getD s (i + k) 0) (getD s (j + k) 0) ≡ true

@@ -7,7 +7,7 @@ ghost use lib.ListN.{length, drop, getD};
 ghost use Rattle.base.specs.Bytes.{less};
 ghost use Rattle.json.specs.Lead.{leadOf};
 ghost use Rattle.json.specs.Read.{endOf, chars, esc, readStr, kindOf, word as wordOf, number as numberOf, array as arrayOf, object as objectOf, member as memberOf, rises, read, raw};
-ghost use Rattle.json.specs.Strings.{Skips, plain, PlainRun};
+ghost use Rattle.json.specs.Strings.{Skips, plain, PlainRun, shared, SharedRun};
 ghost use Rattle.json.specs.Names.{CharRead, lastOf};
 ghost use Rattle.json.specs.Json.{Canonical, maxDepth};
 
@@ -326,12 +326,67 @@ pub fn char_at(s: &[u8], i: usize) -> Char
     Char::Byte(first, j)
 }
 
+// Whether the bytes are one plain byte.
+fn is_shared(x: u8, y: u8) -> bool
+    ensures { λ r. ⌜ r ≡ shared x y ⌝ }
+{
+    let one = is_plain(x);
+    one & (x == y)
+}
+
+// Whether the blocks have the same plain bytes.
+fn is_shared_block(s: &[u8], a: usize, b: usize) -> bool
+    requires { ⌜ (a + 16 ≤ length (now s)) × (b + 16 ≤ length (now s)) ⌝ }
+    ensures { λ r. ⌜ (r ≡ true → SharedRun (now (s .entry)) a b 16) ⌝ }
+{
+    let mut all = true;
+    let mut k: usize = 0;
+    while k < BLOCK {
+        let one = is_shared(s[a + k], s[b + k]);
+        all = all & one;
+        k += 1;
+    }
+    all
+}
+
+// Places in two names.
+struct Places {
+    a: usize,
+    b: usize,
+}
+
+// Past the blocks that the names share: names that follow one another mostly begin alike.
+fn shared_end(s: &[u8], a: usize, b: usize) -> Places
+    ensures { λ r. ⌜ less (raw (drop a (now (s .entry)))) (raw (drop b (now (s .entry)))) ≡ less (raw (drop (r .a) (now (s .entry)))) (raw (drop (r .b) (now (s .entry)))) ⌝ }
+{
+    let mut i = a;
+    let mut j = b;
+    while i < s.len() {
+        if s.len() - i < BLOCK {
+            return Places { a: i, b: j };
+        }
+        if s.len() < j {
+            return Places { a: i, b: j };
+        }
+        if s.len() - j < BLOCK {
+            return Places { a: i, b: j };
+        }
+        if !is_shared_block(s, i, j) {
+            return Places { a: i, b: j };
+        }
+        i += BLOCK;
+        j += BLOCK;
+    }
+    Places { a: i, b: j }
+}
+
 // The name at a is less than the name at b: byte by byte, a shorter prefix first.
 fn name_less(s: &[u8], a: usize, b: usize) -> bool
     ensures { λ r. ⌜ r ≡ less (raw (drop a (now (s .entry)))) (raw (drop b (now (s .entry)))) ⌝ }
 {
-    let mut i = a;
-    let mut j = b;
+    let from = shared_end(s, a, b);
+    let mut i = from.a;
+    let mut j = from.b;
     loop {
         match char_at(s, j) {
             Char::Close => {

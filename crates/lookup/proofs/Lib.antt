@@ -4,6 +4,8 @@ pub mod ItemLaws
 pub mod MemberLaws
 pub mod LookupLaws
 pub mod PlacedLaws
+pub mod SeveralLaws
+pub mod EndLaws
 pub mod StringLaws
 pub mod NumberLaws
 pub mod TruthLaws

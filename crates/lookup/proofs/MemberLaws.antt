@@ -14,7 +14,7 @@ use Rattle.json.specs.declared.Skip.the-variants as skip
 use Rattle.json.proofs.Puts.{put-str, put-obj, members-nil, members-cons, more-members-nil, more-members-cons}
 use Rattle.json.proofs.Complete.{complete}
 use Rattle.json.proofs.Rest.{located, chars-fits, refused}
-use Rattle.lookup.specs.Place.{Stands, EndsAt}
+use Rattle.lookup.specs.Place.{Stands, EndsAt, KnownEnd}
 use Rattle.lookup.specs.declared.Found.{Found}
 use Rattle.lookup.specs.declared.Found.the-variants.{Nothing, At}
 use Rattle.lookup.specs.Walk.{closes, opens, Opens, Follows, MemberAt, MemberAfter, NameAt, MembersLeft, members-end, members-at, MembersOf}
@@ -54,8 +54,8 @@ module _ (s : Bytes) (i : ℕ) (n : Bytes) (v : Json) (ms : Members) (rest : Byt
       pub colon-cut : length s ≤ e → ⊥
       colon-cut l = let k = colon .0 in omega arith
 
-      pub member-there : MembersLeft s (member.At (i + 1) (e + 1)) (mcons n v ms)
-      member-there = members-at rest (there s i 34 _ t .2 ∙ ap (λ (x : Bytes). putBytes n (34 ∷ 58 ∷ x)) (sym (colon .2))) (colon .2) g
+      pub member-there : MembersLeft s rest (member.At (i + 1) (e + 1)) (mcons n v ms)
+      member-there = members-at (there s i 34 _ t .2 ∙ ap (λ (x : Bytes). putBytes n (34 ∷ 58 ∷ x)) (sym (colon .2))) (colon .2) g
 
 pub name-after : (s : Bytes) (i : ℕ) (r : Found) → EndsAt s i r → (e : ℕ) → r ≡ At e → e < length s → MemberAfter s i (member.At (i + 1) (e + 1))
 name-after s i r w e q h = let k = place-after s i r (w .onward) e q in (omega arith, omega (arith, k .0), omega arith)
@@ -71,7 +71,7 @@ name-later r n e = rw e at n
 -- what is left of the text, for a loop's measure
 abbrev pub ahead : Bytes → Member → ℕ
 ahead s member.NoObject = 0
-ahead s member.End = 0
+ahead s (member.End e) = 0
 ahead s (member.At i j) = suc (length s - j)
 
 pub ahead-less : (s : Bytes) (m : Member) (i j : ℕ) → m ≡ member.At i j → (r : Member) → MemberAfter s j r → ahead s r < ahead s m
@@ -79,13 +79,13 @@ ahead-less s m i j q r a = rw q (go r a)
   where
     go : (r : Member) → MemberAfter s j r → ahead s r < suc (length s - j)
     go member.NoObject a = omega arith
-    go member.End a = omega arith
+    go (member.End e) a = omega arith
     go (member.At n v) a = let x = a .0 in let y = a .1 in let z = a .2 in omega arith
 
 -- what lies after i lies after a place before i
 pub after-later : (s : Bytes) (p i : ℕ) → p < i → (r : Member) → MemberAfter s i r → MemberAfter s p r
 after-later s p i h member.NoObject a = tt
-after-later s p i h member.End a = tt
+after-later s p i h (member.End e) a = let z = a .0 in (omega arith, a .1)
 after-later s p i h (member.At n v) a = let z = a .0 in (omega arith, a .1, a .2)
 
 -- ## Members in order
@@ -99,33 +99,33 @@ unfolding Valid
 member-before s j n v ms rest t g = record { rest = putMoreMembers ms (125 ∷ rest); text = t; free = more-members-free ms rest; valid = g .1 }
 
 -- a member that is the first of those left: its value stands at its place, and its name is read at its own
-module _ {s : Bytes} {i j : ℕ} {n : Bytes} {v : Json} {ms : Members} where
-  pub member-stands : MembersLeft s (member.At i j) (mcons n v ms) → Stands s j v
-  member-stands (members-at rest t u g) = member-before s j n v ms rest u g
+module _ {s rest : Bytes} {i j : ℕ} {n : Bytes} {v : Json} {ms : Members} where
+  pub member-stands : MembersLeft s rest (member.At i j) (mcons n v ms) → Stands s j v
+  member-stands (members-at t u g) = member-before s j n v ms rest u g
 
-  pub member-name : MembersLeft s (member.At i j) (mcons n v ms) → raw (drop i s) ≡ n
-  member-name (members-at rest t u g) = ap raw t ∙ raw-bytes n _
+  pub member-name : MembersLeft s rest (member.At i j) (mcons n v ms) → raw (drop i s) ≡ n
+  member-name (members-at t u g) = ap raw t ∙ raw-bytes n _
 
 -- what stands past a bracket or a comma
-data MembersOpen (s : Bytes) : Element → Option Members → Type 0 where
-  open-none : MembersOpen s element.NoArray none
-  open-end : MembersOpen s element.End (some mnil)
-  open-at : {i : ℕ} {n : Bytes} {v : Json} {ms : Members} (rest : Bytes) → drop i s ≡ MemberText n v ms rest → ValidMembers (mcons n v ms) maxDepth
-      → MembersOpen s (element.At i) (some (mcons n v ms))
+data MembersOpen (s rest : Bytes) : Element → Option Members → Type 0 where
+  open-none : MembersOpen s rest element.NoArray none
+  open-end : {e : ℕ} → drop e s ≡ rest → MembersOpen s rest (element.End e) (some mnil)
+  open-at : {i : ℕ} {n : Bytes} {v : Json} {ms : Members} → drop i s ≡ MemberText n v ms rest → ValidMembers (mcons n v ms) maxDepth
+      → MembersOpen s rest (element.At i) (some (mcons n v ms))
 
 -- what the program makes of it
 pub data MemberBy (s : Bytes) : Element → Member → Type 0 where
   by-none : MemberBy s element.NoArray member.NoObject
-  by-end : MemberBy s element.End member.End
+  by-end : {e : ℕ} → MemberBy s (element.End e) (member.End e)
   by-at : {i : ℕ} {r : Member} → MemberAt s i r → MemberBy s (element.At i) r
 
-members-by : {s : Bytes} {r : Member} {e : Element} {o : Option Members} → MembersOpen s e o → MemberBy s e r → MembersOf s r o
+members-by : {s rest : Bytes} {r : Member} {e : Element} {o : Option Members} → MembersOpen s rest e o → MemberBy s e r → MembersOf s rest r o
 members-by open-none by-none = refl
-members-by open-end by-end = members-end
-members-by (open-at {n = n} {v = v} {ms = ms} rest t g) (by-at m) = m .means n v ms rest t g
+members-by (open-end t) by-end = members-end t
+members-by {rest = rest} (open-at {n = n} {v = v} {ms = ms} t g) (by-at m) = m .means n v ms rest t g
 
 module _ (s : Bytes) (p : ℕ) where
-  first-members : {e : Element} → Opens s p 123 125 e → (v : Json) → Stands s p v → MembersOpen s e (members v)
+  first-members : {e : Element} → Opens s p 123 125 e → (v : Json) (h : Stands s p v) → MembersOpen s (h .rest) e (members v)
   unfolding members Valid
   first-members o jnull h = rw (o .is ∙ opens-no s p jnull h 123 125 refl refl) open-none
   first-members o jtrue h = rw (o .is ∙ opens-no s p jtrue h 123 125 refl refl) open-none
@@ -135,33 +135,37 @@ module _ (s : Bytes) (p : ℕ) where
   first-members o (str b) h = rw (o .is ∙ opens-no s p (str b) h 123 125 refl refl) open-none
   first-members o (arr xs) h = rw (o .is ∙ opens-no s p (arr xs) h 123 125 refl refl) open-none
   first-members {e} o (obj mnil) h =
-      let k : e ≡ element.End = o .is ∙ ap (λ (x : Bytes). opens 123 125 p x) (h .text ∙ put-obj mnil _) ∙ opens-on 123 125 p _ ∙ rw members-nil (closes-end 125 (p + 1) _) in
-      rw k open-end
+      let t : drop p s ≡ 123 ∷ 125 ∷ h .rest = h .text ∙ put-obj mnil _ ∙ ap (λ (x : Bytes). 123 ∷ x) (members-nil _) in
+      let k : e ≡ element.End (p + 1 + 1) = o .is ∙ ap (λ (x : Bytes). opens 123 125 p x) t ∙ opens-on 123 125 p _ ∙ closes-end 125 _ _ _ in
+      rw k (open-end (there s (p + 1) 125 _ (there s p 123 _ t .2) .2))
   first-members {e} o (obj (mcons n u ms)) h =
       let g : ValidMembers (mcons n u ms) maxDepth = deeper (obj (mcons n u ms)) maxDepth (h .valid) in
       let q : drop p s ≡ 123 ∷ MemberText n u ms (h .rest) = h .text ∙ put-obj (mcons n u ms) _ ∙ ap (λ (x : Bytes). 123 ∷ x) (members-cons n u ms _) in
-      let k : e ≡ element.At (p + 1) = o .is ∙ ap (λ (x : Bytes). opens 123 125 p x) q ∙ opens-on 123 125 p _ ∙ closes-on 125 (p + 1) 34 _ refl in
-      rw k (open-at (h .rest) (there s p 123 _ q .2) g)
+      let k : e ≡ element.At (p + 1) = o .is ∙ ap (λ (x : Bytes). opens 123 125 p x) q ∙ opens-on 123 125 p _ ∙ closes-on 125 _ (p + 1) 34 _ refl in
+      rw k (open-at (there s p 123 _ q .2) g)
 
-  next-members : {r : Element} → Follows s p 125 r → (i : ℕ) (n : Bytes) (v : Json) (ms : Members) → MembersLeft s (member.At i p) (mcons n v ms) → MembersOpen s r (some ms)
+  next-members : {f : Found} {r : Element} → Follows s p 125 f r → KnownEnd s p f
+      → {rest : Bytes} (i : ℕ) (n : Bytes) (v : Json) (ms : Members) → MembersLeft s rest (member.At i p) (mcons n v ms) → MembersOpen s rest r (some ms)
   unfolding Valid member-before
-  next-members {r} w i n v ms l = go ms l
+  next-members {r = r} w known {rest} i n v ms l = go ms l
     where
-      go : (us : Members) → MembersLeft s (member.At i p) (mcons n v us) → MembersOpen s r (some us)
-      go mnil (members-at rest t u g) =
+      go : (us : Members) → MembersLeft s rest (member.At i p) (mcons n v us) → MembersOpen s rest r (some us)
+      go mnil (members-at t u g) =
           let h = member-before s p n v mnil rest u g in
-          let k : r ≡ element.End = w .means v h ∙ ap (λ (x : Bytes). closes 125 (length s - length (h .rest) + 1) x) (more-members-nil _) ∙ closes-end 125 _ _ in
-          rw k open-end
-      go (mcons m x us) (members-at rest t u g) =
+          let e = length s - length (h .rest) in
+          let c = more-members-nil (125 ∷ rest) in
+          let k : r ≡ element.End (e + 1) = w .means known v h ∙ ap (λ (x : Bytes). closes 125 (e + 1) (e + 1) x) c ∙ closes-end 125 _ _ _ in
+          rw k (open-end (there s e 125 _ (rest-at s p v h ∙ c) .2))
+      go (mcons m x us) (members-at t u g) =
           let h = member-before s p n v (mcons m x us) rest u g in
           let e = length s - length (h .rest) in
           let c = more-members-cons m x us (125 ∷ rest) in
-          let k : r ≡ element.At (e + 1) = w .means v h ∙ ap (λ (x : Bytes). closes 125 (e + 1) x) c ∙ closes-on 125 (e + 1) 44 _ refl in
-          rw k (open-at rest (there s e 44 _ (rest-at s p v h ∙ c) .2) (g .2 .1, g .2 .2, g .2 .3))
+          let k : r ≡ element.At (e + 1) = w .means known v h ∙ ap (λ (x : Bytes). closes 125 (e + 1) (e + 1) x) c ∙ closes-on 125 _ (e + 1) 44 _ refl in
+          rw k (open-at (there s e 44 _ (rest-at s p v h ∙ c) .2) (g .2 .1, g .2 .2, g .2 .3))
 
-  pub first-by : {e : Element} {r : Member} → Opens s p 123 125 e → MemberBy s e r → (v : Json) → Stands s p v → MembersOf s r (members v)
+  pub first-by : {e : Element} {r : Member} → Opens s p 123 125 e → MemberBy s e r → (v : Json) (h : Stands s p v) → MembersOf s (h .rest) r (members v)
   first-by o b v h = members-by (first-members o v h) b
 
-  pub next-by : {e : Element} {r : Member} → Follows s p 125 e → MemberBy s e r
-      → (i : ℕ) (n : Bytes) (v : Json) (ms : Members) → MembersLeft s (member.At i p) (mcons n v ms) → MembersLeft s r ms
-  next-by w b i n v ms l = members-by (next-members w i n v ms l) b
+  pub next-by : {f : Found} {e : Element} {r : Member} → Follows s p 125 f e → MemberBy s e r → KnownEnd s p f
+      → {rest : Bytes} (i : ℕ) (n : Bytes) (v : Json) (ms : Members) → MembersLeft s rest (member.At i p) (mcons n v ms) → MembersLeft s rest r ms
+  next-by w b known i n v ms l = members-by (next-members w known i n v ms l) b

@@ -15,7 +15,7 @@ use Rattle.json.specs.declared.Skip.{Skip}
 use Rattle.json.specs.declared.Skip.the-variants.{No, End}
 use Rattle.json.proofs.Slices.{put-split}
 use Rattle.skip.specs.Ends.{Ends, EndAfter}
-use Rattle.lookup.specs.Place.{Stands, PlaceAfter, EndsAt}
+use Rattle.lookup.specs.Place.{Stands, PlaceAfter, EndsAt, KnownEnd, FoundEnd, EndsBy}
 use Rattle.lookup.specs.declared.Found.{Found}
 use Rattle.lookup.specs.declared.Found.the-variants.{Nothing, At}
 use Rattle.lookup.proofs.FirstByte.{Begins, begins}
@@ -79,3 +79,35 @@ module _ (s : Bytes) (p : ℕ) (v : Json) (h : Stands s p v) where
 
     pub end-is : (e : ℕ) → r ≡ At e → e ≡ length s - length (h .rest)
     end-is e q = let k : At e ≡ At (length s - length (h .rest)) = sym q ∙ w .means v h in cc
+
+-- ## Ends that may be known
+
+module _ (s : Bytes) (p : ℕ) (known : Found) where
+  -- an end that was looked for, whatever is known
+  pub looked-for : (r : Found) → EndsAt s p r → EndsBy s p known r
+  looked-for r w = record { means = λ k. w; onward = w .onward }
+
+  -- the one that is known
+  pub told : (e : ℕ) → known ≡ At e → KnownEnd s p known → EndsAt s p (At e)
+  told e q k = rw q at k
+
+-- what is known of the value at one place, it is of the value at the same place
+pub known-at : (s : Bytes) (p q : ℕ) (f : Found) → p ≡ q → KnownEnd s q f → KnownEnd s p f
+known-at s p q f e k = rw (← e) at k
+
+-- where nothing is known
+pub known-none : (s : Bytes) (p : ℕ) (f : Found) → f ≡ Nothing → KnownEnd s p f
+known-none s p f e = rw e tt
+
+-- a value that was found, by its place
+pub found-end : (s : Bytes) (found end : Found) (x : ℕ) → found ≡ At x → FoundEnd s found end → KnownEnd s x end
+found-end s found end x q k = rw q at k
+
+pub end-of-found : (s : Bytes) (found end : Found) (x : ℕ) → found ≡ At x → KnownEnd s x end → FoundEnd s found end
+end-of-found s found end x q k = rw q k
+
+pub end-of-none : (s : Bytes) (found end : Found) → found ≡ Nothing → FoundEnd s found end
+end-of-none s found end q = rw q tt
+
+pub known-as : (s : Bytes) (p : ℕ) (f g : Found) → f ≡ g → KnownEnd s p g → KnownEnd s p f
+known-as s p f g e k = rw e k

@@ -2,10 +2,11 @@
 // A place is an index into the text. The text was validated before: where no value stands at a place, the answer is any that ends.
 ghost use mathlib.Core.Path.{_≡_};
 ghost use lib.ListN.{length, drop};
-ghost use Rattle.base.specs.Bytes.{same};
+ghost use Rattle.base.specs.Bytes.{Bytes, same};
 ghost use Rattle.json.specs.Read.{raw};
-ghost use Rattle.lookup.specs.Place.{EndsAt, FindsMember};
-ghost use Rattle.lookup.specs.Walk.{Opens, Follows, FirstElement, NextElement, MemberAt, FirstMember, NextMember};
+ghost use Rattle.lookup.specs.Place.{EndsAt, KnownEnd, FoundEnd, EndsBy, FindsMember, note, FindsMembers};
+ghost use Rattle.lookup.specs.declared.Found.the-variants.{Nothing};
+ghost use Rattle.lookup.specs.Walk.{Opens, Follows, FirstElement, NextElement, NextElementBy, MemberAt, FirstMember, NextMember, NextMemberBy};
 ghost use Rattle.lookup.specs.Leaves.{stringIn, Copies, leadingTo, numberIn, viewNumber, truthIn, viewTruth};
 use json::Char;
 use json::Skip;
@@ -30,12 +31,32 @@ pub fn value_end(s: &[u8], at: usize) -> Found
     }
 }
 
+// The same, where a reader of the value may have told its end.
+fn end_by(s: &[u8], at: usize, known: Found) -> Found
+    ensures { λ r. ⌜ EndsBy (now (s .entry)) at known r ⌝ }
+{
+    match known {
+        Found::Nothing => {
+            return value_end(s, at);
+        }
+        Found::At(e) => {
+            if e <= at {
+                return value_end(s, at);
+            }
+            if s.len() < e {
+                return value_end(s, at);
+            }
+            return Found::At(e);
+        }
+    }
+}
+
 // ---- Elements of an array
 
-// The place of the next element.
+// The place of the next element; past the last one, just past the closing bracket.
 pub enum Element {
     NoArray,
-    End,
+    End(usize),
     At(usize),
 }
 
@@ -54,16 +75,16 @@ fn opened(s: &[u8], at: usize, start: u8, close: u8) -> Element
         return Element::NoArray;
     }
     if s[i] == close {
-        return Element::End;
+        return Element::End(i + 1);
     }
     Element::At(i)
 }
 
-// What follows the value at `i`: the closing byte, or a comma and the next element or member.
-fn following(s: &[u8], i: usize, close: u8) -> Element
-    ensures { λ r. ⌜ Follows (now (s .entry)) i close r ⌝ }
+// What follows the value at `i`, whose end may be known: the closing byte, or a comma and the next element or member.
+fn following(s: &[u8], i: usize, close: u8, end: Found) -> Element
+    ensures { λ r. ⌜ Follows (now (s .entry)) i close end r ⌝ }
 {
-    match value_end(s, i) {
+    match end_by(s, i, end) {
         Found::Nothing => {
             return Element::NoArray;
         }
@@ -71,10 +92,11 @@ fn following(s: &[u8], i: usize, close: u8) -> Element
             if s.len() <= e {
                 return Element::NoArray;
             }
+            let next = e + 1;
             if s[e] == close {
-                return Element::End;
+                return Element::End(next);
             }
-            return Element::At(e + 1);
+            return Element::At(next);
         }
     }
 }
@@ -90,15 +112,23 @@ pub fn first_element(s: &[u8], at: usize) -> Element
 pub fn next_element(s: &[u8], i: usize) -> Element
     ensures { λ r. ⌜ NextElement (now (s .entry)) i r ⌝ }
 {
-    following(s, i, b']')
+    following(s, i, b']', Found::Nothing)
+}
+
+// The same, where a reader of the element at `i` may have told its end.
+pub fn next_element_by(s: &[u8], i: usize, end: Found) -> Element
+    ensures { λ r. ⌜ NextElementBy (now (s .entry)) i end r ⌝ }
+{
+    following(s, i, b']', end)
 }
 
 // ---- Members of an object
 
-// The next member: the place of its name, just past the opening quote, and the place of its value.
+// The next member: the place of its name, just past the opening quote, and the place of its value; past the last one, just past the
+// closing brace.
 pub enum Member {
     NoObject,
-    End,
+    End(usize),
     At { name: usize, value: usize },
 }
 
@@ -131,8 +161,8 @@ pub fn first_member(s: &[u8], at: usize) -> Member
         Element::NoArray => {
             return Member::NoObject;
         }
-        Element::End => {
-            return Member::End;
+        Element::End(e) => {
+            return Member::End(e);
         }
         Element::At(i) => {
             return member_at(s, i);
@@ -144,12 +174,19 @@ pub fn first_member(s: &[u8], at: usize) -> Member
 pub fn next_member(s: &[u8], value: usize) -> Member
     ensures { λ r. ⌜ NextMember (now (s .entry)) value r ⌝ }
 {
-    match following(s, value, b'}') {
+    next_member_by(s, value, Found::Nothing)
+}
+
+// The same, where a reader of the value may have told its end.
+pub fn next_member_by(s: &[u8], value: usize, end: Found) -> Member
+    ensures { λ r. ⌜ NextMemberBy (now (s .entry)) value end r ⌝ }
+{
+    match following(s, value, b'}', end) {
         Element::NoArray => {
             return Member::NoObject;
         }
-        Element::End => {
-            return Member::End;
+        Element::End(e) => {
+            return Member::End(e);
         }
         Element::At(i) => {
             return member_at(s, i);
@@ -157,9 +194,56 @@ pub fn next_member(s: &[u8], value: usize) -> Member
     }
 }
 
+// A value, by its place, whose end a reader may have told.
+pub struct Extent {
+    pub at: usize,
+    pub end: Found,
+}
+
+// Of no value is the end known.
+pub fn no_extent() -> Extent
+    ensures { λ r. ⌜ r .end ≡ Nothing ⌝ }
+{
+    Extent {
+        at: 0,
+        end: Found::Nothing,
+    }
+}
+
+// The value that was found, with what is known of its end.
+pub fn extent_of(found: Found, end: Found) -> Extent
+    ensures { λ r. ⌜ ((s : Bytes) → FoundEnd s found end → KnownEnd s (r .at) (r .end)) ⌝ }
+{
+    match found {
+        Found::Nothing => {
+            return no_extent();
+        }
+        Found::At(at) => {
+            return Extent { at, end };
+        }
+    }
+}
+
+// What is known of the end of the value at `at`.
+fn known_end(at: usize, known: Extent) -> Found
+    ensures { λ r. ⌜ ((s : Bytes) → KnownEnd s (known .at) (known .end) → KnownEnd s at r) ⌝ }
+{
+    if at != known.at {
+        return Found::Nothing;
+    }
+    known.end
+}
+
 // The value of the member of that name, in the object at `at`.
 pub fn find_member(s: &[u8], at: usize, name: &[u8]) -> Found
     ensures { λ r. ⌜ FindsMember (now (s .entry)) at (now (name .entry)) r ⌝ }
+{
+    find_member_by(s, at, name, no_extent())
+}
+
+// The same, without a walk over the value whose end is known.
+pub fn find_member_by(s: &[u8], at: usize, name: &[u8], known: Extent) -> Found
+    ensures { λ r. ⌜ (KnownEnd (now (s .entry)) (known .at) (known .end) → FindsMember (now (s .entry)) at (now (name .entry)) r) ⌝ }
 {
     let mut m = first_member(s, at);
     loop {
@@ -168,13 +252,91 @@ pub fn find_member(s: &[u8], at: usize, name: &[u8]) -> Found
                 if text_is(s, n, name) {
                     return Found::At(v);
                 }
-                m = next_member(s, v);
+                let end = known_end(v, known);
+                m = next_member_by(s, v, end);
             }
             Member::NoObject => {
                 return Found::Nothing;
             }
-            Member::End => {
+            Member::End(_) => {
                 return Found::Nothing;
+            }
+        }
+    }
+}
+
+// ---- Several members in one walk
+
+// The values of four members by their places, and the end of the object that they were looked for in.
+pub struct Members {
+    pub first: Found,
+    pub second: Found,
+    pub third: Found,
+    pub fourth: Found,
+    pub end: Found,
+}
+
+// What was found of that name, once the member is seen whose name is read at `i` and whose value stands at `value`.
+pub fn noted(s: &[u8], i: usize, value: usize, name: &[u8], found: Found) -> Found
+    ensures { λ r. ⌜ r ≡ note (same (raw (drop i (now (s .entry)))) (now (name .entry))) value found ⌝ }
+{
+    match found {
+        Found::Nothing => {
+            if text_is(s, i, name) {
+                return Found::At(value);
+            }
+            return Found::Nothing;
+        }
+        Found::At(x) => {
+            return Found::At(x);
+        }
+    }
+}
+
+// The members of those names in the object at `at`. One walk for all of them, and none over the value whose end is known.
+pub fn find_members(
+    s: &[u8],
+    at: usize,
+    a: &[u8],
+    b: &[u8],
+    c: &[u8],
+    d: &[u8],
+    known: Extent,
+) -> Members
+    ensures { λ r. ⌜ (KnownEnd (now (s .entry)) (known .at) (known .end) → FindsMembers (now (s .entry)) at (now (a .entry)) (now (b .entry)) (now (c .entry)) (now (d .entry)) r) ⌝ }
+{
+    let mut first = Found::Nothing;
+    let mut second = Found::Nothing;
+    let mut third = Found::Nothing;
+    let mut fourth = Found::Nothing;
+    let mut m = first_member(s, at);
+    loop {
+        match m {
+            Member::At { name: n, value: v } => {
+                first = noted(s, n, v, a, first);
+                second = noted(s, n, v, b, second);
+                third = noted(s, n, v, c, third);
+                fourth = noted(s, n, v, d, fourth);
+                let end = known_end(v, known);
+                m = next_member_by(s, v, end);
+            }
+            Member::NoObject => {
+                return Members {
+                    first,
+                    second,
+                    third,
+                    fourth,
+                    end: Found::Nothing,
+                };
+            }
+            Member::End(e) => {
+                return Members {
+                    first,
+                    second,
+                    third,
+                    fourth,
+                    end: Found::At(e),
+                };
             }
         }
     }
@@ -224,8 +386,8 @@ pub fn text_is(s: &[u8], i: usize, k: &[u8]) -> bool
 pub fn text_len(s: &[u8], i: usize) -> usize
     ensures { λ r. ⌜ r ≡ length (raw (drop i (now (s .entry)))) ⌝ }
 {
-    let mut p = i;
-    let mut n: usize = 0;
+    let mut p = skip::bare_end(s, i);
+    let mut n = p - i;
     loop {
         match json::char_at(s, p) {
             Char::Close => {

@@ -66,13 +66,13 @@ module _ (t : KeyTable) (s : Bytes) (v : Json) where
     pub no-keyids : e ≡ element.NoArray → none ≡ naming (viewTable t) v
     no-keyids q = whole-none (items-none (hex keySize) 1 maxKeyids s e n (g .ids) _ (g .walk) q)
 
-    pub few-keyids : e ≡ element.End → n < 1 → none ≡ naming (viewTable t) v
-    few-keyids q h = whole-none (items-few (hex keySize) 1 maxKeyids s e n (g .ids) _ (g .walk) q h)
+    pub few-keyids : (j : ℕ) → e ≡ element.End j → n < 1 → none ≡ naming (viewTable t) v
+    few-keyids j q h = whole-none (items-few (hex keySize) 1 maxKeyids s e n (g .ids) _ (g .walk) j q h)
 
-    pub naming-is : e ≡ element.End → 1 ≤ n → n ≤ maxKeyids → some (record { keyids = pick bits 0 (viewTable t); number = n }) ≡ naming (viewTable t) v
+    pub naming-is : (j : ℕ) → e ≡ element.End j → 1 ≤ n → n ≤ maxKeyids → some (record { keyids = pick bits 0 (viewTable t); number = n }) ≡ naming (viewTable t) v
     unfolding naming named keep
-    naming-is q l h =
-        let w = items-over (hex keySize) 1 maxKeyids s e n (g .ids) _ (g .walk) q l h in
+    naming-is j q l h =
+        let w = items-over (hex keySize) 1 maxKeyids s e n (g .ids) _ (g .walk) j q l h in
         sym (on _ (sym w) ∙ rw (g .good, ← picked t (g .ids) bits (g .names), g .number))
 
     module _ (i : ℕ) (q : e ≡ element.At i) where
@@ -88,7 +88,7 @@ module _ (t : KeyTable) (s : Bytes) (v : Json) where
         unfolding naming
         refused f =
             let w : ItemsWalk (hex keySize) 1 maxKeyids s (element.At i) n (g .ids) (eachItem 1 maxKeyids (hex keySize) v) = rw q at (g .walk) in
-            let d = w .3 ∙ left-next 1 maxKeyids n (g .ids) (hex keySize (w .0)) (said (hex keySize) (w .1)) id (sym (h (w .0) (item-stands (w .2)))) in
+            let d = w .3 ∙ left-next 1 maxKeyids n (g .ids) (hex keySize (w .0)) (said (hex keySize) (w .1)) id (sym (h (w .0) (item-stands (w .2 .1)))) in
             sym (rw d (left-refused (n + 1) (g .ids ++ (id ∷ [])) (said (hex keySize) (w .1)) f))
 
         pub other-keyid : places ≡ 0 → none ≡ naming (viewTable t) v

@@ -6,13 +6,15 @@ ghost use lib.ListN.{drop};
 ghost use Rattle.base.specs.Bytes.{bytes};
 ghost use Rattle.json.specs.Read.{raw};
 ghost use Rattle.json.specs.Fields.{keep};
-ghost use Rattle.lookup.specs.Place.{Takes};
+ghost use Rattle.lookup.specs.Place.{Takes, KnownEnd, FoundEnd};
+ghost use Rattle.lookup.specs.declared.Found.the-variants.{Nothing};
 ghost use Rattle.rules.specs.Limits.{maxKeys, keySize};
 ghost use Rattle.rules.specs.Take.{must, hex};
 ghost use Rattle.rules.specs.Forms.{isIn, different, key as keyForm, keys as keysForm};
 ghost use Rattle.rules.specs.State.{rootIn};
 ghost use Rattle.records.specs.View.{viewId, viewTable};
 ghost use Rattle.forms.specs.Each.{eachMember};
+ghost use Rattle.forms.specs.Member.{TakesMust};
 ghost use Rattle.forms.specs.View.{viewIdAt};
 ghost use Rattle.root_file.specs.Body.{naming, roleKept, rolesKept, rootKept, isTruth};
 ghost use Rattle.root_file.specs.View.{publicsFrom, viewKeyAt, viewKeysAt, viewNamingAt, viewRoleAt, viewRolesAt, viewRootAt, viewRootRead};
@@ -32,13 +34,15 @@ use records::Root;
 
 // ---- Keys
 
+// A key, and where it ends.
 pub struct KeyAt {
     pub ok: bool,
     pub key: Key,
+    pub end: Found,
 }
 
 fn no_key() -> KeyAt
-    ensures { λ r. ⌜ r .ok ≡ false ⌝ }
+    ensures { λ r. ⌜ (r .ok ≡ false) × (r .end ≡ Nothing) ⌝ }
 {
     let zeros = Id { bytes: [0u8; 32] };
     KeyAt {
@@ -47,14 +51,15 @@ fn no_key() -> KeyAt
             keyid: zeros,
             public: zeros,
         },
+        end: Found::Nothing,
     }
 }
 
 // "a keyval whose public is 64 lower-case hex".
-fn public_at(s: &[u8], at: usize) -> IdAt
-    ensures { λ r. ⌜ Takes (now (s .entry)) at (must (bytes "keyval") (must (bytes "public") (hex keySize))) (viewIdAt r) ⌝ }
+fn public_field(s: &[u8], found: Found) -> IdAt
+    ensures { λ r. ⌜ TakesMust (now (s .entry)) found (must (bytes "public") (hex keySize)) (viewIdAt r) ⌝ }
 {
-    match lookup::find_member(s, at, b"keyval") {
+    match found {
         Found::Nothing => {
             return IdAt {
                 ok: false,
@@ -62,43 +67,59 @@ fn public_at(s: &[u8], at: usize) -> IdAt
             };
         }
         Found::At(x) => {
-            return forms::id_field(s, x, b"public");
+            return forms::id_field(s, lookup::find_member(s, x, b"public"));
         }
     }
 }
 
 // The key of a member: its name begins at `name`, just past the opening quote, and its value at `value`.
 pub fn key_at(s: &[u8], name: usize, value: usize) -> KeyAt
-    ensures { λ r. ⌜ Takes (now (s .entry)) value (keyForm (raw (drop name (now (s .entry))))) (viewKeyAt r) ⌝ }
+    ensures { λ r. ⌜ Takes (now (s .entry)) value (keyForm (raw (drop name (now (s .entry))))) (viewKeyAt r) × KnownEnd (now (s .entry)) value (r .end) ⌝ }
 {
     let id = forms::id_in(s, name);
     if !id.ok {
         return no_key();
     }
-    if !forms::word_field(s, value, b"keytype", b"ed25519") {
+    let m = lookup::find_members(
+        s,
+        value,
+        b"keytype",
+        b"scheme",
+        b"keyval",
+        b"",
+        lookup::no_extent(),
+    );
+    let first = m.first;
+    let second = m.second;
+    let third = m.third;
+    let end = m.end;
+    if !forms::word_field(s, first, b"ed25519") {
         return no_key();
     }
-    if !forms::word_field(s, value, b"scheme", b"ed25519") {
+    if !forms::word_field(s, second, b"ed25519") {
         return no_key();
     }
-    let last = public_at(s, value);
+    let last = public_field(s, third);
     let keyid = id.id;
     let public = last.id;
     KeyAt {
         ok: last.ok,
         key: Key { keyid, public },
+        end,
     }
 }
 
 // ---- The key table
 
+// The key table, and where it ends.
 pub struct KeysAt {
     pub ok: bool,
     pub table: KeyTable,
+    pub end: Found,
 }
 
 fn no_keys() -> KeysAt
-    ensures { λ r. ⌜ r .ok ≡ false ⌝ }
+    ensures { λ r. ⌜ (r .ok ≡ false) × (r .end ≡ Nothing) ⌝ }
 {
     let blank = no_key();
     let key = blank.key;
@@ -108,12 +129,13 @@ fn no_keys() -> KeysAt
             count: 0,
             keys: [key; records::MAX_KEYS],
         },
+        end: Found::Nothing,
     }
 }
 
 // 1 to 16 members, each a key.
 fn table_at(s: &[u8], at: usize) -> KeysAt
-    ensures { λ r. ⌜ Takes (now (s .entry)) at (eachMember 1 maxKeys keyForm) (viewKeysAt r) ⌝ }
+    ensures { λ r. ⌜ Takes (now (s .entry)) at (eachMember 1 maxKeys keyForm) (viewKeysAt r) × KnownEnd (now (s .entry)) at (r .end) ⌝ }
 {
     let blank = no_key();
     let zeros = blank.key;
@@ -133,18 +155,20 @@ fn table_at(s: &[u8], at: usize) -> KeysAt
                 let key = read.key;
                 keys[n] = key;
                 n += 1;
-                m = lookup::next_member(s, value);
+                let end = read.end;
+                m = lookup::next_member_by(s, value, end);
             }
             Member::NoObject => {
                 return no_keys();
             }
-            Member::End => {
+            Member::End(e) => {
                 if n < 1 {
                     return no_keys();
                 }
                 return KeysAt {
                     ok: true,
                     table: KeyTable { count: n, keys },
+                    end: Found::At(e),
                 };
             }
         }
@@ -185,21 +209,22 @@ fn publics_differ(table: KeyTable) -> bool
 
 // "keys, 1 to 16".
 pub fn keys_at(s: &[u8], at: usize) -> KeysAt
-    ensures { λ r. ⌜ Takes (now (s .entry)) at keysForm (viewKeysAt r) ⌝ }
+    ensures { λ r. ⌜ Takes (now (s .entry)) at keysForm (viewKeysAt r) × KnownEnd (now (s .entry)) at (r .end) ⌝ }
 {
     let read = table_at(s, at);
     if !read.ok {
         return no_keys();
     }
     let table = read.table;
+    let end = read.end;
     let ok = publics_differ(table);
-    KeysAt { ok, table }
+    KeysAt { ok, table, end }
 }
 
-fn keys_field(s: &[u8], at: usize) -> KeysAt
-    ensures { λ r. ⌜ Takes (now (s .entry)) at (must (bytes "keys") keysForm) (viewKeysAt r) ⌝ }
+fn keys_field(s: &[u8], found: Found) -> KeysAt
+    ensures { λ r. ⌜ TakesMust (now (s .entry)) found keysForm (viewKeysAt r) × FoundEnd (now (s .entry)) found (r .end) ⌝ }
 {
-    match lookup::find_member(s, at, b"keys") {
+    match found {
         Found::Nothing => {
             return no_keys();
         }
@@ -211,26 +236,28 @@ fn keys_field(s: &[u8], at: usize) -> KeysAt
 
 // ---- Roles
 
-// A role's keyids as bits over the key table, and how many there are.
+// A role's keyids as bits over the key table, how many there are, and where they end.
 struct NamingAt {
     ok: bool,
     keys: u16,
     count: usize,
+    end: Found,
 }
 
 fn no_naming() -> NamingAt
-    ensures { λ r. ⌜ r .ok ≡ false ⌝ }
+    ensures { λ r. ⌜ (r .ok ≡ false) × (r .end ≡ Nothing) ⌝ }
 {
     NamingAt {
         ok: false,
         keys: 0,
         count: 0,
+        end: Found::Nothing,
     }
 }
 
 // 1 to 16 keyids, each at some place of the key table and none at a place that is marked already.
 fn naming_at(s: &[u8], at: usize, table: KeyTable) -> NamingAt
-    ensures { λ r. ⌜ Takes (now (s .entry)) at (naming (viewTable table)) (viewNamingAt table r) ⌝ }
+    ensures { λ r. ⌜ Takes (now (s .entry)) at (naming (viewTable table)) (viewNamingAt table r) × KnownEnd (now (s .entry)) at (r .end) ⌝ }
 {
     let mut keys: u16 = 0;
     let mut n: usize = 0;
@@ -259,7 +286,7 @@ fn naming_at(s: &[u8], at: usize, table: KeyTable) -> NamingAt
             Element::NoArray => {
                 return no_naming();
             }
-            Element::End => {
+            Element::End(past) => {
                 if n < 1 {
                     return no_naming();
                 }
@@ -267,6 +294,7 @@ fn naming_at(s: &[u8], at: usize, table: KeyTable) -> NamingAt
                     ok: true,
                     keys,
                     count: n,
+                    end: Found::At(past),
                 };
             }
         }
@@ -274,10 +302,10 @@ fn naming_at(s: &[u8], at: usize, table: KeyTable) -> NamingAt
 }
 
 // "keyids".
-fn naming_field(s: &[u8], at: usize, table: KeyTable) -> NamingAt
-    ensures { λ r. ⌜ Takes (now (s .entry)) at (must (bytes "keyids") (naming (viewTable table))) (viewNamingAt table r) ⌝ }
+fn naming_field(s: &[u8], found: Found, table: KeyTable) -> NamingAt
+    ensures { λ r. ⌜ TakesMust (now (s .entry)) found (naming (viewTable table)) (viewNamingAt table r) × FoundEnd (now (s .entry)) found (r .end) ⌝ }
 {
-    match lookup::find_member(s, at, b"keyids") {
+    match found {
         Found::Nothing => {
             return no_naming();
         }
@@ -308,11 +336,14 @@ fn no_role() -> RoleAt
 pub fn role_at(s: &[u8], at: usize, table: KeyTable) -> RoleAt
     ensures { λ r. ⌜ Takes (now (s .entry)) at (roleKept (viewTable table)) (viewRoleAt table r) ⌝ }
 {
-    let named = naming_field(s, at, table);
+    let found = lookup::find_member(s, at, b"keyids");
+    let named = naming_field(s, found, table);
     if !named.ok {
         return no_role();
     }
-    match forms::number_field(s, at, b"threshold", 1, named.count as u64) {
+    let end = named.end;
+    let second = lookup::find_member_by(s, at, b"threshold", lookup::extent_of(found, end));
+    match forms::number_field(s, second, 1, named.count as u64) {
         Number::No => {
             return no_role();
         }
@@ -328,10 +359,10 @@ pub fn role_at(s: &[u8], at: usize, table: KeyTable) -> RoleAt
     }
 }
 
-fn role_field(s: &[u8], at: usize, name: &[u8], table: KeyTable) -> RoleAt
-    ensures { λ r. ⌜ Takes (now (s .entry)) at (must (now (name .entry)) (roleKept (viewTable table))) (viewRoleAt table r) ⌝ }
+fn role_field(s: &[u8], found: Found, table: KeyTable) -> RoleAt
+    ensures { λ r. ⌜ TakesMust (now (s .entry)) found (roleKept (viewTable table)) (viewRoleAt table r) ⌝ }
 {
-    match lookup::find_member(s, at, name) {
+    match found {
         Found::Nothing => {
             return no_role();
         }
@@ -341,16 +372,18 @@ fn role_field(s: &[u8], at: usize, name: &[u8], table: KeyTable) -> RoleAt
     }
 }
 
+// The roles, and where they end.
 struct RolesAt {
     ok: bool,
     root: Role,
     timestamp: Role,
     snapshot: Role,
     targets: Role,
+    end: Found,
 }
 
 fn no_roles() -> RolesAt
-    ensures { λ r. ⌜ r .ok ≡ false ⌝ }
+    ensures { λ r. ⌜ (r .ok ≡ false) × (r .end ≡ Nothing) ⌝ }
 {
     let role = Role {
         keys: 0,
@@ -362,43 +395,59 @@ fn no_roles() -> RolesAt
         timestamp: role,
         snapshot: role,
         targets: role,
+        end: Found::Nothing,
     }
 }
 
 // "roles with root, timestamp, snapshot and targets"; "Other role names are passed over".
 fn roles_at(s: &[u8], at: usize, table: KeyTable) -> RolesAt
-    ensures { λ r. ⌜ Takes (now (s .entry)) at (rolesKept (viewTable table)) (viewRolesAt table r) ⌝ }
+    ensures { λ r. ⌜ Takes (now (s .entry)) at (rolesKept (viewTable table)) (viewRolesAt table r) × KnownEnd (now (s .entry)) at (r .end) ⌝ }
 {
-    let first = role_field(s, at, b"root", table);
-    if !first.ok {
+    let m = lookup::find_members(
+        s,
+        at,
+        b"root",
+        b"timestamp",
+        b"snapshot",
+        b"targets",
+        lookup::no_extent(),
+    );
+    let first = m.first;
+    let second = m.second;
+    let third = m.third;
+    let fourth = m.fourth;
+    let end = m.end;
+    let a = role_field(s, first, table);
+    if !a.ok {
         return no_roles();
     }
-    let second = role_field(s, at, b"timestamp", table);
-    if !second.ok {
+    let b = role_field(s, second, table);
+    if !b.ok {
         return no_roles();
     }
-    let third = role_field(s, at, b"snapshot", table);
-    if !third.ok {
+    let c = role_field(s, third, table);
+    if !c.ok {
         return no_roles();
     }
-    let fourth = role_field(s, at, b"targets", table);
-    let root = first.role;
-    let timestamp = second.role;
-    let snapshot = third.role;
-    let targets = fourth.role;
+    let d = role_field(s, fourth, table);
+    let root = a.role;
+    let timestamp = b.role;
+    let snapshot = c.role;
+    let targets = d.role;
     RolesAt {
-        ok: fourth.ok,
+        ok: d.ok,
         root,
         timestamp,
         snapshot,
         targets,
+        end,
     }
 }
 
-fn roles_field(s: &[u8], at: usize, table: KeyTable) -> RolesAt
-    ensures { λ r. ⌜ Takes (now (s .entry)) at (must (bytes "roles") (rolesKept (viewTable table))) (viewRolesAt table r) ⌝ }
+fn roles_field(s: &[u8], found: Found, table: KeyTable) -> RolesAt
+    ensures { λ r. ⌜ TakesMust (now (s .entry)) found (rolesKept (viewTable table)) (viewRolesAt table r) × FoundEnd (now (s .entry)) found (r .end) ⌝ }
 {
-    match lookup::find_member(s, at, b"roles") {
+    match found {
         Found::Nothing => {
             return no_roles();
         }
@@ -411,10 +460,10 @@ fn roles_field(s: &[u8], at: usize, table: KeyTable) -> RolesAt
 // ---- The root
 
 // "consistent_snapshot true or false": which of the two is not kept.
-fn has_snapshot_rule(s: &[u8], at: usize) -> bool
-    ensures { λ r. ⌜ Takes (now (s .entry)) at (must (bytes "consistent_snapshot") isTruth) (keep r tt) ⌝ }
+fn has_snapshot_rule(s: &[u8], found: Found) -> bool
+    ensures { λ r. ⌜ TakesMust (now (s .entry)) found isTruth (keep r tt) ⌝ }
 {
-    match lookup::find_member(s, at, b"consistent_snapshot") {
+    match found {
         Found::Nothing => {
             return false;
         }
@@ -429,6 +478,7 @@ fn has_snapshot_rule(s: &[u8], at: usize) -> bool
     }
 }
 
+// A root's body, and where its roles stand and end.
 pub struct RootAt {
     pub ok: bool,
     pub table: KeyTable,
@@ -436,10 +486,12 @@ pub struct RootAt {
     pub timestamp: Role,
     pub snapshot: Role,
     pub targets: Role,
+    pub roles: Found,
+    pub end: Found,
 }
 
 fn no_root() -> RootAt
-    ensures { λ r. ⌜ r .ok ≡ false ⌝ }
+    ensures { λ r. ⌜ (r .ok ≡ false) × (r .roles ≡ Nothing) ⌝ }
 {
     let keys = no_keys();
     let table = keys.table;
@@ -454,33 +506,41 @@ fn no_root() -> RootAt
         timestamp: role,
         snapshot: role,
         targets: role,
+        roles: Found::Nothing,
+        end: Found::Nothing,
     }
 }
 
 // What is kept of a root's body.
 pub fn root_at(s: &[u8], at: usize) -> RootAt
-    ensures { λ r. ⌜ Takes (now (s .entry)) at rootKept (viewRootAt r) ⌝ }
+    ensures { λ r. ⌜ Takes (now (s .entry)) at rootKept (viewRootAt r) × FoundEnd (now (s .entry)) (r .roles) (r .end) ⌝ }
 {
-    if !has_snapshot_rule(s, at) {
+    if !has_snapshot_rule(s, lookup::find_member(s, at, b"consistent_snapshot")) {
         return no_root();
     }
-    let keys = keys_field(s, at);
+    let first = lookup::find_member(s, at, b"keys");
+    let keys = keys_field(s, first);
     if !keys.ok {
         return no_root();
     }
     let table = keys.table;
-    let roles = roles_field(s, at, table);
-    let root = roles.root;
-    let timestamp = roles.timestamp;
-    let snapshot = roles.snapshot;
-    let targets = roles.targets;
+    let keys_end = keys.end;
+    let second = lookup::find_member_by(s, at, b"roles", lookup::extent_of(first, keys_end));
+    let read = roles_field(s, second, table);
+    let root = read.root;
+    let timestamp = read.timestamp;
+    let snapshot = read.snapshot;
+    let targets = read.targets;
+    let end = read.end;
     RootAt {
-        ok: roles.ok,
+        ok: read.ok,
         table,
         root,
         timestamp,
         snapshot,
         targets,
+        roles: second,
+        end,
     }
 }
 
@@ -517,28 +577,35 @@ fn refused(answer: u8) -> RootRead
 pub fn read_root(file: &[u8]) -> RootRead
     ensures { λ r. ⌜ viewRootRead r ≡ some (rootIn (now (file .entry))) ⌝ }
 {
-    let role = envelope::role_in(file, b"root");
-    if role.answer != 0 {
-        return refused(role.answer);
+    let opened = envelope::open_envelope(file);
+    if opened.answer != 0 {
+        return refused(opened.answer);
     }
-    let body = root_at(file, role.start);
+    let start = opened.start;
+    let body = root_at(file, start);
     if !body.ok {
         return refused(envelope::BAD_FORM);
     }
-    if !role.known {
+    let roles = body.roles;
+    let end = body.end;
+    let header = envelope::header_at(file, start, b"root", lookup::extent_of(roles, end));
+    if !header.ok {
+        return refused(envelope::BAD_FORM);
+    }
+    if !header.known {
         return refused(envelope::OTHER_SPEC);
     }
-    let expires = role.expires;
+    let expires = header.expires;
     let table = body.table;
     let root = body.root;
     let timestamp = body.timestamp;
     let snapshot = body.snapshot;
     let targets = body.targets;
-    let entries = role.entries;
+    let entries = opened.entries;
     RootRead {
         answer: 0,
         root: Root {
-            version: role.version,
+            version: header.version,
             expires,
             table,
             root,

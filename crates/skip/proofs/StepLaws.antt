@@ -1,5 +1,6 @@
 -- One law for each turn of a loop and each way out, at a place of the text.
 use mathlib.Core.Path.{_≡_, refl, sym, ap, _∙_}
+use mathlib.Core.List.{_∷_}
 use mathlib.Core.Bool.{Bool, true, false, not, _&&_, _||_}
 use mathlib.Core.Logic.{_⊎_, inl, inr}
 use Prim.Native.Nat.{ℕ, zero, suc, _≤_, _<_, _+_, _-_}
@@ -12,7 +13,9 @@ use borrow.Author.Tests.{ne-eqb, eqb-false, not-true}
 use Rattle.base.specs.Bytes.{Bytes, isDigit}
 use Rattle.base.proofs.PlaceLaws.{at-cons, at-end}
 use Rattle.base.proofs.TestLaws.{both}
-use Rattle.skip.specs.Skim.{skim, quoted, pastDigits, Plain}
+use Rattle.json.specs.Read.{raw}
+use Rattle.json.proofs.NameLaws.{raw-plain}
+use Rattle.skip.specs.Skim.{skim, quoted, pastDigits, Plain, Bare}
 use Rattle.skip.proofs.SkimLaws.{skim-nil, skim-zero, skim-quote, skim-bracket, skim-brace, skim-bracket-end, skim-brace-end, skim-other, quoted-nil, quoted-close, quoted-cut, quoted-escape, quoted-plain}
 
 -- ## Digits and strings
@@ -51,28 +54,40 @@ module _ (s : Bytes) (i : ℕ) where
 
 -- ## A block of a string, byte by byte
 
-plain-to : (s : Bytes) (i j k : ℕ) → Plain s i j → j ≡ k → Plain s i k
-plain-to s i j k p e n = p n ∙ ap (λ (x : ℕ). quoted (drop x s) n) e
-
 pub plain-then : (s : Bytes) (i j k : ℕ) → Plain s i j → Plain s j k → Plain s i k
 plain-then s i j k p q n = p n ∙ q n
 
-module _ (s : Bytes) (i : ℕ) where
-  pub block-start : Plain s i (i + 0)
-  block-start = plain-to s i i (i + 0) (λ n. refl) (omega arith)
+pub bare-none : (s : Bytes) (i : ℕ) → Bare s i i
+bare-none s i = record { plain = λ n. refl; counts = refl }
 
-  pub block-next : (k : ℕ) (plain : Bool) → (plain ≡ true → Plain s i (i + k)) → i + k < length s
-      → (plain && not (eqb (getD s (i + k) 0) 34)) && not (eqb (getD s (i + k) 0) 92) ≡ true → Plain s i (i + (k + 1))
+bare-to : (s : Bytes) (i j k : ℕ) → Bare s i j → j ≡ k → Bare s i k
+bare-to s i j k p e = rw e at p
+
+pub bare-then : (s : Bytes) (i j k : ℕ) → Bare s i j → Bare s j k → Bare s i k
+bare-then s i j k p q = record { plain = plain-then s i j k (p .plain) (q .plain); counts = p .counts ∙ q .counts }
+
+bare-one : (s : Bytes) (i : ℕ) → i < length s → (getD s i 0 ≡ 34 → ⊥) → (getD s i 0 ≡ 92 → ⊥) → Bare s i (i + 1)
+bare-one s i h e f =
+    let r : raw (drop i s) ≡ getD s i 0 ∷ raw (drop (i + 1) s) = ap raw (at-cons s i h) ∙ raw-plain _ _ (ne-eqb _ _ e) (ne-eqb _ _ f) in
+    let l = ap length r in
+    record { plain = string-plain s i h e f; counts = omega (arith, l) }
+
+module _ (s : Bytes) (i : ℕ) where
+  pub block-start : Bare s i (i + 0)
+  block-start = bare-to s i i (i + 0) (bare-none s i) (omega arith)
+
+  pub block-next : (k : ℕ) (plain : Bool) → (plain ≡ true → Bare s i (i + k)) → i + k < length s
+      → (plain && not (eqb (getD s (i + k) 0) 34)) && not (eqb (getD s (i + k) 0) 92) ≡ true → Bare s i (i + (k + 1))
   block-next k plain p h e =
       let b = getD s (i + k) 0 in
       let x = both (plain && not (eqb b 34)) (not (eqb b 92)) e in
       let y = both plain (not (eqb b 34)) (x .0) in
-      plain-to s i (i + k + 1) (i + (k + 1))
-      (plain-then s i (i + k) (i + k + 1) (p (y .0)) (string-plain s (i + k) h (eqb-false b 34 (not-true (eqb b 34) (y .1))) (eqb-false b 92 (not-true (eqb b 92) (x .1)))))
+      bare-to s i (i + k + 1) (i + (k + 1))
+      (bare-then s i (i + k) (i + k + 1) (p (y .0)) (bare-one s (i + k) h (eqb-false b 34 (not-true (eqb b 34) (y .1))) (eqb-false b 92 (not-true (eqb b 92) (x .1)))))
       (omega arith)
 
-  pub block-whole : (k : ℕ) → Plain s i (i + k) → 16 ≤ k → k ≤ 16 → Plain s i (i + 16)
-  block-whole k p g l = plain-to s i (i + k) (i + 16) p (omega arith)
+  pub block-whole : (k : ℕ) → Bare s i (i + k) → 16 ≤ k → k ≤ 16 → Bare s i (i + 16)
+  block-whole k p g l = bare-to s i (i + k) (i + 16) p (omega arith)
 
 -- ## Brackets, n of them open
 

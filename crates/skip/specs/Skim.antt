@@ -2,11 +2,12 @@
 use mathlib.Core.Path.{_≡_}
 use mathlib.Core.List.{[], _∷_}
 use mathlib.Core.Bool.{Bool, cond, _||_}
-use Prim.Native.Nat.{ℕ, zero, suc, _≤_}
+use Prim.Native.Nat.{ℕ, zero, suc, _+_, _≤_}
 use Prim.Native.Char.{code}
 use lib.Dec.{eqb}
 use lib.ListN.{length, drop}
 use Rattle.base.specs.Bytes.{Bytes, isDigit}
+use Rattle.json.specs.Read.{raw}
 
 abbrev pub isOpening : ℕ → Bool
 isOpening b = eqb b (code "[") || eqb b (code "{")
@@ -44,6 +45,11 @@ pastDigits (b ∷ t) = cond (isDigit b) (pastDigits t) (b ∷ t)
 -- no string ends, and no escape begins, from i up to j
 abbrev pub Plain : Bytes → ℕ → ℕ → Type 0
 Plain s i j = (n : ℕ) → quoted (drop i s) n ≡ quoted (drop j s) n
+
+-- the bytes from i up to j stand for themselves in a string, which has that many bytes more
+pub record Bare (s : Bytes) (i j : ℕ) : Type 0 where
+  pub plain : Plain s i j
+  pub counts : length (raw (drop i s)) + i ≡ length (raw (drop j s)) + j
 
 -- a skip leads from i to j, and means that
 pub record Leads (s : Bytes) (i j : ℕ) (that : Type 0) : Type 0 where

@@ -3,7 +3,7 @@ ghost use mathlib.Core.Path.{_≡_};
 ghost use mathlib.Core.Bool.{true};
 ghost use Prim.Native.Nat.{_+_, _≤_};
 ghost use lib.ListN.{length};
-ghost use Rattle.skip.specs.Skim.{Plain, Leads, StringEnd, BracketEnd, DigitsEnd, WordEnd};
+ghost use Rattle.skip.specs.Skim.{Bare, Leads, StringEnd, BracketEnd, DigitsEnd, WordEnd};
 ghost use Rattle.skip.specs.Ends.{Ends};
 use json::Skip;
 
@@ -13,7 +13,7 @@ const BLOCK: usize = 16;
 // Whether the block at `at` has neither a quote nor a backslash. There is no branch on a byte, so that it compiles to vector instructions.
 fn plain_block(s: &[u8], at: usize) -> bool
     requires { ⌜ at + 16 ≤ length (now s) ⌝ }
-    ensures { λ r. ⌜ (r ≡ true → Plain (now (s .entry)) at (at + 16)) ⌝ }
+    ensures { λ r. ⌜ (r ≡ true → Bare (now (s .entry)) at (at + 16)) ⌝ }
 {
     let mut plain = true;
     let mut k: usize = 0;
@@ -28,7 +28,7 @@ fn plain_block(s: &[u8], at: usize) -> bool
 // Past the plain blocks from `at` on.
 fn plain_run(s: &[u8], at: usize) -> usize
     requires { ⌜ at ≤ length (now s) ⌝ }
-    ensures { λ r. ⌜ Leads (now (s .entry)) at r (Plain (now (s .entry)) at r) ⌝ }
+    ensures { λ r. ⌜ Leads (now (s .entry)) at r (Bare (now (s .entry)) at r) ⌝ }
 {
     let mut i = at;
     while i < s.len() {
@@ -41,6 +41,16 @@ fn plain_run(s: &[u8], at: usize) -> usize
         i += BLOCK;
     }
     i
+}
+
+// The same from any place on.
+pub fn bare_end(s: &[u8], at: usize) -> usize
+    ensures { λ r. ⌜ Bare (now (s .entry)) at r × (at ≤ r) ⌝ }
+{
+    if s.len() < at {
+        return at;
+    }
+    plain_run(s, at)
 }
 
 // Just past the string whose opening quote stands before `at`; a backslash takes the next byte with it.

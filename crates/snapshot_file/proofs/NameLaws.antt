@@ -10,6 +10,7 @@ use lib.ListN.{length, take}
 use borrow.Author.Tests.{le-leb, lt-leb, leb-true}
 use Rattle.base.specs.Bytes.{Bytes, bytes}
 use Rattle.base.specs.Window.{window}
+use Rattle.base.proofs.TestLaws.{never}
 use Rattle.base.proofs.WindowLaws.{window-part}
 use Rattle.json.specs.Json.{Json, Members}
 use Rattle.json.specs.Fields.{members, lookup, field, count, keep}
@@ -25,6 +26,7 @@ use Rattle.rules.specs.Forms.{listed, named, names}
 use Rattle.records.specs.View.{viewName}
 use Rattle.forms.specs.Each.{eachMember}
 use Rattle.forms.proofs.ListedLaws.{keep-in}
+use Rattle.snapshot_file.specs.View.{IsMissing}
 
 -- ## A name
 
@@ -80,14 +82,29 @@ names-by v = go (members v)
     go none = refl
     go (some ms) = inner (leb 1 (count ms) && leb (count ms) maxNames) ms (lookup (bytes "targets.json") ms) refl
 
-module _ (s : Bytes) (p : ℕ) {r : Found} (w : Finds s p (field (bytes "targets.json")) r) where
-  module _ (o : Option (List Named)) where
-    pub targets-missing : r ≡ Nothing → o ≡ none → Takes s p names o
-    unfolding bind
-    targets-missing q e v h = let n : field (bytes "targets.json") v ≡ none = rw q at (w v h) in e ∙ sym (names-by v ∙ rw n refl)
+module _ (s : Bytes) (p : ℕ) (o : Option (List Named)) where
+  -- the list is broken
+  pub names-broken : o ≡ none → Takes s p (eachMember 1 maxNames named) none → Takes s p names o
+  unfolding bind
+  names-broken e t v h = e ∙ sym (names-by v ∙ rw (← t v h) (go (field (bytes "targets.json") v)))
+    where
+      go : (x : Option Json) → _≡_ {A = Option (List Named)} (x >>= λ _. none) none
+      go none = refl
+      go (some w) = refl
 
-    pub targets-there : (x : ℕ) → r ≡ At x → Takes s p (eachMember 1 maxNames named) o → Takes s p names o
+  module _ (r : Found) (b : Bool) (m : IsMissing r b) (w : Finds s p (field (bytes "targets.json")) r) where
+    pub targets-missing : b ≡ true → o ≡ none → Takes s p names o
     unfolding bind
-    targets-there x q t v h =
-        let z : PlaceOf s (At x) (field (bytes "targets.json") v) = rw q at (w v h) in
-        t v h ∙ sym (names-by v ∙ rw (z .1) refl)
+    targets-missing q e v h = let n : field (bytes "targets.json") v ≡ none = go r m (w v h) in e ∙ sym (names-by v ∙ rw n refl)
+      where
+        go : (r : Found) → IsMissing r b → PlaceOf s r (field (bytes "targets.json") v) → field (bytes "targets.json") v ≡ none
+        go Nothing m t = t
+        go (At x) m t = never (sym q ∙ m)
+
+    pub targets-there : b ≡ false → Takes s p (eachMember 1 maxNames named) o → Takes s p names o
+    unfolding bind
+    targets-there q t v h = let z = go r m (w v h) in t v h ∙ sym (names-by v ∙ rw (z .1) refl)
+      where
+        go : (r : Found) → IsMissing r b → PlaceOf s r (field (bytes "targets.json") v) → (x : Json) × (field (bytes "targets.json") v ≡ some x)
+        go Nothing m t = never (sym m ∙ q)
+        go (At x) m t = (t .0, t .1)

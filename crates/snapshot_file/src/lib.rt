@@ -3,13 +3,14 @@ ghost use mathlib.Core.Path.{_≡_};
 ghost use mathlib.Core.Option.{none, some};
 ghost use lib.ListN.{drop};
 ghost use Rattle.json.specs.Read.{raw};
-ghost use Rattle.lookup.specs.Place.{Takes};
-ghost use Rattle.rules.specs.Limits.{maxName, maxNames};
+ghost use Rattle.lookup.specs.Place.{Takes, KnownEnd, FoundEnd};
+ghost use Rattle.lookup.specs.declared.Found.the-variants.{Nothing};
+ghost use Rattle.rules.specs.Limits.{maxName};
 ghost use Rattle.rules.specs.Take.{nameOf};
-ghost use Rattle.rules.specs.Forms.{named as namedForm, names as namesForm, snapshot as snapshotForm};
+ghost use Rattle.rules.specs.Forms.{named as namedForm, names as namesForm};
 ghost use Rattle.rules.specs.State.{snapshotIn};
-ghost use Rattle.forms.specs.Each.{eachMember};
-ghost use Rattle.snapshot_file.specs.View.{viewNameAt, viewNamedAt, viewNamesAt, viewSnapshotRead};
+ghost use Rattle.forms.specs.Member.{TakesMust};
+ghost use Rattle.snapshot_file.specs.View.{viewNameAt, viewNamedAt, viewNamesAt, IsMissing, viewSnapshotRead};
 use date::Time;
 use lookup::Found;
 use lookup::Member;
@@ -47,13 +48,15 @@ fn name_in(s: &[u8], i: usize) -> NameAt
 
 // ---- What is said of a name
 
+// A name with what is said of it, and where that ends.
 pub struct NamedAt {
     pub ok: bool,
     pub named: Named,
+    pub end: Found,
 }
 
 fn no_named() -> NamedAt
-    ensures { λ r. ⌜ viewNamedAt r ≡ none ⌝ }
+    ensures { λ r. ⌜ (viewNamedAt r ≡ none) × (r .end ≡ Nothing) ⌝ }
 {
     let blank = forms::no_listed();
     let listed = blank.listed;
@@ -66,12 +69,13 @@ fn no_named() -> NamedAt
             },
             listed,
         },
+        end: Found::Nothing,
     }
 }
 
 // The member whose name is read at `i` and whose value stands at `at`.
 fn named_at(s: &[u8], i: usize, at: usize) -> NamedAt
-    ensures { λ r. ⌜ Takes (now (s .entry)) at (namedForm (raw (drop i (now (s .entry))))) (viewNamedAt r) ⌝ }
+    ensures { λ r. ⌜ Takes (now (s .entry)) at (namedForm (raw (drop i (now (s .entry))))) (viewNamedAt r) × KnownEnd (now (s .entry)) at (r .end) ⌝ }
 {
     let read = name_in(s, i);
     if !read.ok {
@@ -80,21 +84,25 @@ fn named_at(s: &[u8], i: usize, at: usize) -> NamedAt
     let name = read.name;
     let said = forms::listed_at(s, at);
     let listed = said.listed;
+    let end = said.end;
     NamedAt {
         ok: said.ok,
         named: Named { name, listed },
+        end,
     }
 }
 
 // ---- "meta"
 
+// The names, and where they end.
 pub struct NamesAt {
     pub ok: bool,
     pub names: Names,
+    pub end: Found,
 }
 
 fn no_names() -> NamesAt
-    ensures { λ r. ⌜ viewNamesAt r ≡ none ⌝ }
+    ensures { λ r. ⌜ (viewNamesAt r ≡ none) × (r .end ≡ Nothing) ⌝ }
 {
     let blank = no_named();
     let named = blank.named;
@@ -104,17 +112,19 @@ fn no_names() -> NamesAt
             count: 0,
             named: [named; records::MAX_NAMES],
         },
+        end: Found::Nothing,
     }
 }
 
-// 1 to 32 names, each with what is said of it.
-fn each_named(s: &[u8], at: usize) -> NamesAt
-    ensures { λ r. ⌜ Takes (now (s .entry)) at (eachMember 1 maxNames namedForm) (viewNamesAt r) ⌝ }
+// 1 to 32 names, each with what is said of it, `targets.json` among them.
+fn names_at(s: &[u8], at: usize) -> NamesAt
+    ensures { λ r. ⌜ Takes (now (s .entry)) at namesForm (viewNamesAt r) × KnownEnd (now (s .entry)) at (r .end) ⌝ }
 {
     let none = no_named();
     let blank = none.named;
     let mut all = [blank; records::MAX_NAMES];
     let mut n: usize = 0;
+    let mut targets = Found::Nothing;
     let mut m = lookup::first_member(s, at);
     loop {
         match m {
@@ -129,13 +139,18 @@ fn each_named(s: &[u8], at: usize) -> NamesAt
                 let named = read.named;
                 all[n] = named;
                 n += 1;
-                m = lookup::next_member(s, v);
+                targets = lookup::noted(s, i, v, b"targets.json", targets);
+                let end = read.end;
+                m = lookup::next_member_by(s, v, end);
             }
             Member::NoObject => {
                 return no_names();
             }
-            Member::End => {
+            Member::End(e) => {
                 if n < 1 {
+                    return no_names();
+                }
+                if is_missing(targets) {
                     return no_names();
                 }
                 return NamesAt {
@@ -144,30 +159,30 @@ fn each_named(s: &[u8], at: usize) -> NamesAt
                         count: n,
                         named: all,
                     },
+                    end: Found::At(e),
                 };
             }
         }
     }
 }
 
-// `targets.json` among them.
-fn names_at(s: &[u8], at: usize) -> NamesAt
-    ensures { λ r. ⌜ Takes (now (s .entry)) at namesForm (viewNamesAt r) ⌝ }
+fn is_missing(found: Found) -> bool
+    ensures { λ r. ⌜ IsMissing found r ⌝ }
 {
-    match lookup::find_member(s, at, b"targets.json") {
+    match found {
         Found::Nothing => {
-            return no_names();
+            return true;
         }
         Found::At(_) => {
-            return each_named(s, at);
+            return false;
         }
     }
 }
 
-fn meta_names(s: &[u8], at: usize) -> NamesAt
-    ensures { λ r. ⌜ Takes (now (s .entry)) at snapshotForm (viewNamesAt r) ⌝ }
+fn meta_names(s: &[u8], found: Found) -> NamesAt
+    ensures { λ r. ⌜ TakesMust (now (s .entry)) found namesForm (viewNamesAt r) × FoundEnd (now (s .entry)) found (r .end) ⌝ }
 {
-    match lookup::find_member(s, at, b"meta") {
+    match found {
         Found::Nothing => {
             return no_names();
         }
@@ -206,24 +221,31 @@ fn refused(answer: u8) -> SnapshotRead
 pub fn read_snapshot(file: &[u8]) -> SnapshotRead
     ensures { λ r. ⌜ viewSnapshotRead r ≡ some (snapshotIn (now (file .entry))) ⌝ }
 {
-    let role = envelope::role_in(file, b"snapshot");
-    if role.answer != 0 {
-        return refused(role.answer);
+    let opened = envelope::open_envelope(file);
+    if opened.answer != 0 {
+        return refused(opened.answer);
     }
-    let body = meta_names(file, role.start);
+    let start = opened.start;
+    let found = lookup::find_member(file, start, b"meta");
+    let body = meta_names(file, found);
     if !body.ok {
         return refused(envelope::BAD_FORM);
     }
-    if !role.known {
+    let end = body.end;
+    let header = envelope::header_at(file, start, b"snapshot", lookup::extent_of(found, end));
+    if !header.ok {
+        return refused(envelope::BAD_FORM);
+    }
+    if !header.known {
         return refused(envelope::OTHER_SPEC);
     }
-    let expires = role.expires;
+    let expires = header.expires;
     let names = body.names;
-    let entries = role.entries;
+    let entries = opened.entries;
     SnapshotRead {
         answer: 0,
         snapshot: Snapshot {
-            version: role.version,
+            version: header.version,
             expires,
             names,
         },

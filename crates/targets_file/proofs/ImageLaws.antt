@@ -15,6 +15,7 @@ use Rattle.json.specs.Read.{raw}
 use Rattle.json.specs.Fields.{members, field, count, keep, number}
 use Rattle.lookup.specs.Place.{Stands, Takes}
 use Rattle.lookup.specs.Walk.{FirstMember, NextMember}
+use Rattle.lookup.specs.declared.Found.the-variants.{Nothing}
 use Rattle.lookup.specs.declared.Member.{Member}
 use Rattle.lookup.specs.declared.Member.the-variants as member
 use Rattle.rules.specs.Limits.{maxLength, maxTargets, maxPath}
@@ -110,7 +111,7 @@ one-more path all is e t i asked q =
     (go (all .listed) asked (k .0) refl)
   where
     new : ImagesAt
-    new = record { ok = true; listed = true; length = i .length; digest = i .digest }
+    new = record { ok = true; listed = true; length = i .length; digest = i .digest; end = Nothing }
 
     go : (l asked : Bool) → all .ok ≡ true → all .listed ≡ l → viewImages (cond l all (cond asked new all))
         ≡ some (orElse (keep l (record { length = all .length; digest = viewId (all .digest) })) (keep asked (record { length = i .length; digest = viewId (i .digest) })))
@@ -131,10 +132,10 @@ module _ (s path : Bytes) (at : ℕ) (all : ImagesAt) where
   pass-first e m w = record { few = omega arith; before = []; is = e; walk = λ v h. members-first image 0 maxTargets s m w v h }
 
   module _ (n : ℕ) (m : Member) (w : Pass s path at all n m) where
-    pub pass-over : m ≡ member.End → Takes s at (imageIn path images) (viewImages all)
+    pub pass-over : (e : ℕ) → m ≡ member.End e → Takes s at (imageIn path images) (viewImages all)
     unfolding imageIn bind
-    pass-over q v h =
-        let e : some (w .before) ≡ eachMember 0 maxTargets image v = members-over image 0 maxTargets s m n (w .before) _ (w .walk v h) q (omega arith) (w .few) in
+    pass-over j q v h =
+        let e : some (w .before) ≡ eachMember 0 maxTargets image v = members-over image 0 maxTargets s m n (w .before) _ (w .walk v h) j q (omega arith) (w .few) in
         rw (images-by v, ← e) (w .is)
 
     module _ (r : ImagesAt) where

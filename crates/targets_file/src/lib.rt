@@ -2,17 +2,16 @@
 ghost use mathlib.Core.Path.{_≡_};
 ghost use mathlib.Core.Option.{none, some};
 ghost use lib.ListN.{drop};
-ghost use Rattle.base.specs.Bytes.{Bytes, bytes};
+ghost use Rattle.base.specs.Bytes.{Bytes};
 ghost use Rattle.json.specs.Read.{raw};
-ghost use Rattle.lookup.specs.Place.{Takes};
-ghost use Rattle.rules.specs.Take.{must};
-ghost use Rattle.rules.specs.Forms.{sha256, image as imageForm, images as imagesForm, targets as targetsForm};
+ghost use Rattle.lookup.specs.Place.{Takes, KnownEnd, FoundEnd};
+ghost use Rattle.lookup.specs.declared.Found.the-variants.{Nothing, At};
+ghost use Rattle.rules.specs.Forms.{image as imageForm, images as imagesForm};
 ghost use Rattle.rules.specs.State.{kept, targetsIn};
-ghost use Rattle.forms.specs.View.{viewIdAt};
+ghost use Rattle.forms.specs.Member.{TakesMust};
 ghost use Rattle.targets_file.specs.Pass.{withImage};
 ghost use Rattle.targets_file.specs.View.{viewImage, imageIn, viewImages, seen, viewTargetsRead};
 use date::Time;
-use forms::IdAt;
 use lookup::Found;
 use lookup::Member;
 use lookup::Number;
@@ -21,43 +20,29 @@ use records::Id;
 
 // ---- An image
 
+// An image, and where it ends.
 pub struct ImageAt {
     pub ok: bool,
     pub length: u64,
     pub digest: Id,
+    pub end: Found,
 }
 
 fn no_image() -> ImageAt
-    ensures { λ r. ⌜ ((path : Bytes) → viewImage path r ≡ none) ⌝ }
+    ensures { λ r. ⌜ ((path : Bytes) → viewImage path r ≡ none) × (r .end ≡ Nothing) ⌝ }
 {
     ImageAt {
         ok: false,
         length: 0,
         digest: Id { bytes: [0u8; 32] },
-    }
-}
-
-// "hashes", required.
-fn digest_field(s: &[u8], at: usize) -> IdAt
-    ensures { λ r. ⌜ Takes (now (s .entry)) at (must (bytes "hashes") sha256) (viewIdAt r) ⌝ }
-{
-    match lookup::find_member(s, at, b"hashes") {
-        Found::Nothing => {
-            return IdAt {
-                ok: false,
-                id: Id { bytes: [0u8; 32] },
-            };
-        }
-        Found::At(x) => {
-            return forms::id_field(s, x, b"sha256");
-        }
+        end: Found::Nothing,
     }
 }
 
 // The member whose name is read at `i`, just past its opening quote, and whose value stands at `at`: "names of 1 to 128 bytes, each with
 // length and hashes .., both required".
 fn image_at(s: &[u8], i: usize, at: usize) -> ImageAt
-    ensures { λ r. ⌜ Takes (now (s .entry)) at (imageForm (raw (drop i (now (s .entry))))) (viewImage (raw (drop i (now (s .entry)))) r) ⌝ }
+    ensures { λ r. ⌜ Takes (now (s .entry)) at (imageForm (raw (drop i (now (s .entry))))) (viewImage (raw (drop i (now (s .entry)))) r) × KnownEnd (now (s .entry)) at (r .end) ⌝ }
 {
     let name_length = lookup::text_len(s, i);
     if name_length < 1 {
@@ -66,17 +51,22 @@ fn image_at(s: &[u8], i: usize, at: usize) -> ImageAt
     if records::MAX_PATH < name_length {
         return no_image();
     }
-    match forms::number_field(s, at, b"length", 0, records::MAX_LENGTH) {
+    let m = lookup::find_members(s, at, b"length", b"hashes", b"", b"", lookup::no_extent());
+    let first = m.first;
+    let second = m.second;
+    let end = m.end;
+    match forms::number_field(s, first, 0, records::MAX_LENGTH) {
         Number::No => {
             return no_image();
         }
         Number::Is(length) => {
-            let read = digest_field(s, at);
+            let read = forms::digest_field(s, second);
             let digest = read.id;
             return ImageAt {
                 ok: read.ok,
                 length,
                 digest,
+                end,
             };
         }
     }
@@ -84,22 +74,24 @@ fn image_at(s: &[u8], i: usize, at: usize) -> ImageAt
 
 // ---- "targets"
 
-// Whether all images have their form, and the one of the path asked for.
+// Whether all images have their form, the one of the path asked for, and where they end.
 pub struct ImagesAt {
     pub ok: bool,
     pub listed: bool,
     pub length: u64,
     pub digest: Id,
+    pub end: Found,
 }
 
 fn no_images() -> ImagesAt
-    ensures { λ r. ⌜ viewImages r ≡ none ⌝ }
+    ensures { λ r. ⌜ (viewImages r ≡ none) × (r .end ≡ Nothing) ⌝ }
 {
     ImagesAt {
         ok: false,
         listed: false,
         length: 0,
         digest: Id { bytes: [0u8; 32] },
+        end: Found::Nothing,
     }
 }
 
@@ -112,6 +104,21 @@ fn not_listed() -> ImagesAt
         listed: false,
         length: 0,
         digest: Id { bytes: [0u8; 32] },
+        end: Found::Nothing,
+    }
+}
+
+// After the last image: all of them end at `e`.
+fn ended(all: ImagesAt, e: usize) -> ImagesAt
+    ensures { λ r. ⌜ (viewImages r ≡ viewImages all) × (r .end ≡ At e) ⌝ }
+{
+    let digest = all.digest;
+    ImagesAt {
+        ok: all.ok,
+        listed: all.listed,
+        length: all.length,
+        digest,
+        end: Found::At(e),
     }
 }
 
@@ -131,12 +138,13 @@ fn with_image(all: ImagesAt, image: ImageAt, asked: bool) -> ImagesAt
         listed: true,
         length: image.length,
         digest,
+        end: Found::Nothing,
     }
 }
 
 // 0 to 256 images.
 fn each_image(s: &[u8], at: usize, path: &[u8]) -> ImagesAt
-    ensures { λ r. ⌜ Takes (now (s .entry)) at (imageIn (now (path .entry)) imagesForm) (viewImages r) ⌝ }
+    ensures { λ r. ⌜ Takes (now (s .entry)) at (imageIn (now (path .entry)) imagesForm) (viewImages r) × KnownEnd (now (s .entry)) at (r .end) ⌝ }
 {
     let mut all = not_listed();
     let mut n: usize = 0;
@@ -154,22 +162,23 @@ fn each_image(s: &[u8], at: usize, path: &[u8]) -> ImagesAt
                 let asked = lookup::text_is(s, i, path);
                 all = with_image(all, image, asked);
                 n += 1;
-                m = lookup::next_member(s, v);
+                let end = image.end;
+                m = lookup::next_member_by(s, v, end);
             }
             Member::NoObject => {
                 return no_images();
             }
-            Member::End => {
-                return all;
+            Member::End(e) => {
+                return ended(all, e);
             }
         }
     }
 }
 
-fn images_field(s: &[u8], at: usize, path: &[u8]) -> ImagesAt
-    ensures { λ r. ⌜ Takes (now (s .entry)) at (imageIn (now (path .entry)) targetsForm) (viewImages r) ⌝ }
+fn images_field(s: &[u8], found: Found, path: &[u8]) -> ImagesAt
+    ensures { λ r. ⌜ TakesMust (now (s .entry)) found (imageIn (now (path .entry)) imagesForm) (viewImages r) × FoundEnd (now (s .entry)) found (r .end) ⌝ }
 {
-    match lookup::find_member(s, at, b"targets") {
+    match found {
         Found::Nothing => {
             return no_images();
         }
@@ -209,23 +218,30 @@ fn refused(answer: u8) -> TargetsRead
 pub fn read_targets(file: &[u8], path: &[u8]) -> TargetsRead
     ensures { λ r. ⌜ viewTargetsRead r ≡ some (kept (seen (now (path .entry))) (targetsIn (now (file .entry)))) ⌝ }
 {
-    let role = envelope::role_in(file, b"targets");
-    if role.answer != 0 {
-        return refused(role.answer);
+    let opened = envelope::open_envelope(file);
+    if opened.answer != 0 {
+        return refused(opened.answer);
     }
-    let body = images_field(file, role.start, path);
+    let start = opened.start;
+    let found = lookup::find_member(file, start, b"targets");
+    let body = images_field(file, found, path);
     if !body.ok {
         return refused(envelope::BAD_FORM);
     }
-    if !role.known {
+    let end = body.end;
+    let header = envelope::header_at(file, start, b"targets", lookup::extent_of(found, end));
+    if !header.ok {
+        return refused(envelope::BAD_FORM);
+    }
+    if !header.known {
         return refused(envelope::OTHER_SPEC);
     }
-    let expires = role.expires;
+    let expires = header.expires;
     let digest = body.digest;
-    let entries = role.entries;
+    let entries = opened.entries;
     TargetsRead {
         answer: 0,
-        version: role.version,
+        version: header.version,
         expires,
         listed: body.listed,
         length: body.length,

@@ -21,70 +21,70 @@ use Rattle.forms.proofs.StepLaws.{stop, on}
 use Rattle.timestamp_file.specs.View.{only}
 
 -- no member is left where the walk is over, and some where it is not
-over : {s : Bytes} {m : Member} {ms : Members} → MembersLeft s m ms → m ≡ End → ms ≡ mnil
-over members-end q = refl
-over (members-at rest t u g) q = let z : _≡_ {A = ℕ} 0 1 = cc in absurd (omega arith)
+over : {s rest : Bytes} {m : Member} {ms : Members} → MembersLeft s rest m ms → {e : ℕ} → m ≡ End e → ms ≡ mnil
+over (members-end t) q = refl
+over (members-at t u g) q = let z : _≡_ {A = ℕ} 0 1 = cc in absurd (omega arith)
 
-not-over : {s : Bytes} {m : Member} {ms : Members} → MembersLeft s m ms → (m ≡ End → ⊥) → (n : Bytes) (v : Json) (k : Bytes) → single k (mcons n v ms) ≡ none
+not-over : {s rest : Bytes} {m : Member} {ms : Members} → MembersLeft s rest m ms → ((e : ℕ) → m ≡ End e → ⊥) → (n : Bytes) (v : Json) (k : Bytes) → single k (mcons n v ms) ≡ none
 unfolding single
-not-over members-end q n v k = absurd (q refl)
-not-over (members-at rest t u g) q n v k = refl
+not-over (members-end {e = e} t) q n v k = absurd (q e refl)
+not-over (members-at t u g) q n v k = refl
 
 module _ (s : Bytes) (p : ℕ) (k : Bytes) {m : Member} (w : FirstMember s p m) where
   pub only-none : m ≡ NoObject → Finds s p (only k) found.Nothing
   unfolding only bind
   only-none q v h = go (members v) (w .means v h)
     where
-      left : {x : Member} {ms : Members} → MembersLeft s x ms → x ≡ NoObject → single k ms ≡ none
-      left members-end q = let z : _≡_ {A = ℕ} 0 1 = cc in absurd (omega arith)
-      left (members-at rest t u g) q = let z : _≡_ {A = ℕ} 0 1 = cc in absurd (omega arith)
+      left : {rest : Bytes} {x : Member} {ms : Members} → MembersLeft s rest x ms → x ≡ NoObject → single k ms ≡ none
+      left (members-end t) q = let z : _≡_ {A = ℕ} 0 1 = cc in absurd (omega arith)
+      left (members-at t u g) q = let z : _≡_ {A = ℕ} 0 1 = cc in absurd (omega arith)
 
-      go : (o : Option Members) → MembersOf s m o → (o >>= single k) ≡ none
+      go : (o : Option Members) → MembersOf s (h .rest) m o → (o >>= single k) ≡ none
       go none e = refl
       go (some ms) l = left l q
 
-  pub only-end : m ≡ End → Finds s p (only k) found.Nothing
+  pub only-end : (e : ℕ) → m ≡ End e → Finds s p (only k) found.Nothing
   unfolding only bind single
-  only-end q v h = go (members v) (w .means v h)
+  only-end e q v h = go (members v) (w .means v h)
     where
-      go : (o : Option Members) → MembersOf s m o → (o >>= single k) ≡ none
+      go : (o : Option Members) → MembersOf s (h .rest) m o → (o >>= single k) ≡ none
       go none e = refl
       go (some ms) l = rw (over l q) refl
 
   module _ (i j : ℕ) (q : m ≡ At i j) where
     -- what the members say, from the first on
-    by-first : (T : Option Json → Type 0) → ((n : Bytes) (v : Json) (ms : Members) → MembersLeft s (At i j) (mcons n v ms) → T (single k (mcons n v ms)))
+    by-first : (T : Option Json → Type 0) → ((rest n : Bytes) (v : Json) (ms : Members) → MembersLeft s rest (At i j) (mcons n v ms) → T (single k (mcons n v ms)))
         → (v : Json) → Stands s p v → T (only k v)
     unfolding only bind
     by-first T f v h = go (members v) (w .means v h)
       where
-        left : {ms : Members} → MembersLeft s (At i j) ms → T (single k ms)
-        left (members-at {n = n} {v = v} {ms = ms} rest t u g) = f n v ms (members-at rest t u g)
+        left : {rest : Bytes} {ms : Members} → MembersLeft s rest (At i j) ms → T (single k ms)
+        left {rest} (members-at {n = n} {v = v} {ms = ms} t u g) = f rest n v ms (members-at t u g)
 
-        go : (o : Option Members) → MembersOf s m o → T (o >>= single k)
+        go : (o : Option Members) → MembersOf s (h .rest) m o → T (o >>= single k)
         go none e = let z : _≡_ {A = ℕ} 0 1 = cc in absurd (omega arith)
         go (some ms) l = left (rw q at l)
 
-    named : (n : Bytes) (v : Json) (ms : Members) → MembersLeft s (At i j) (mcons n v ms) → (b : Bool) → b ≡ same (raw (drop i s)) k → same n k ≡ b
+    named : {rest : Bytes} (n : Bytes) (v : Json) (ms : Members) → MembersLeft s rest (At i j) (mcons n v ms) → (b : Bool) → b ≡ same (raw (drop i s)) k → same n k ≡ b
     named n v ms l b e = ap (λ (x : Bytes). same x k) (sym (member-name l)) ∙ sym e
 
     pub only-other : false ≡ same (raw (drop i s)) k → Finds s p (only k) found.Nothing
     unfolding single keep
-    only-other e = by-first (λ o. o ≡ none) (λ n v ms l. go n v ms (named n v ms l false e))
+    only-other e = by-first (λ o. o ≡ none) (λ rest n v ms l. go n v ms (named n v ms l false e))
       where
         go : (n : Bytes) (v : Json) (ms : Members) → same n k ≡ false → single k (mcons n v ms) ≡ none
         go n v mnil e = rw e refl
         go n v (mcons m x ms) e = refl
 
     module _ {x : Member} (d : NextMember s j x) where
-      pub only-more : (x ≡ End → ⊥) → Finds s p (only k) found.Nothing
-      only-more e = by-first (λ o. o ≡ none) (λ n v ms l. not-over (d .means i n v ms l) e n v k)
+      pub only-more : ((e : ℕ) → x ≡ End e → ⊥) → Finds s p (only k) found.Nothing
+      only-more e = by-first (λ o. o ≡ none) (λ rest n v ms l. not-over (d .means i n v ms l) e n v k)
 
-      pub only-one : true ≡ same (raw (drop i s)) k → x ≡ End → Finds s p (only k) (found.At j)
+      pub only-one : true ≡ same (raw (drop i s)) k → (e : ℕ) → x ≡ End e → Finds s p (only k) (found.At j)
       unfolding single keep
-      only-one t e =
+      only-one t e q =
           by-first (λ o. PlaceOf s (found.At j) o)
-          (λ n v ms l. (v, rw (over (d .means i n v ms l) e, named n v ms l true t) refl, member-stands l))
+          (λ rest n v ms l. (v, rw (over (d .means i n v ms l) q, named n v ms l true t) refl, member-stands l))
 
 -- what is read in it
 sole-only : {A : Type 0} (k : Bytes) (f : Json → Option A) (v : Json) → sole k f v ≡ (only k v >>= f)

@@ -2,12 +2,13 @@
 ghost use mathlib.Core.Path.{_≡_};
 ghost use mathlib.Core.Option.{some};
 ghost use Rattle.base.specs.Bytes.{bytes};
-ghost use Rattle.lookup.specs.Place.{Finds, Takes};
+ghost use Rattle.lookup.specs.Place.{Takes, KnownEnd, FoundEnd};
 ghost use Rattle.rules.specs.Take.{sole};
-ghost use Rattle.rules.specs.Forms.{listed, timestamp as timestampForm};
+ghost use Rattle.rules.specs.Forms.{listed};
 ghost use Rattle.rules.specs.State.{timestampIn};
+ghost use Rattle.forms.specs.Member.{TakesMust};
 ghost use Rattle.forms.specs.View.{viewListedAt};
-ghost use Rattle.timestamp_file.specs.View.{only, viewTimestampRead};
+ghost use Rattle.timestamp_file.specs.View.{viewTimestampRead};
 use date::Time;
 use forms::ListedAt;
 use lookup::Found;
@@ -15,54 +16,48 @@ use lookup::Member;
 use records::Entries;
 use records::Timestamp;
 
-// The value of the one member of the object at `at`, which has that name.
-fn only_member(s: &[u8], at: usize, name: &[u8]) -> Found
-    ensures { λ r. ⌜ Finds (now (s .entry)) at (only (now (name .entry))) r ⌝ }
+// What is said of the one name, and where the object at `at` ends.
+fn sole_listed(s: &[u8], at: usize) -> ListedAt
+    ensures { λ r. ⌜ Takes (now (s .entry)) at (sole (bytes "snapshot.json") listed) (viewListedAt r) × KnownEnd (now (s .entry)) at (r .end) ⌝ }
 {
     match lookup::first_member(s, at) {
         Member::NoObject => {
-            return Found::Nothing;
-        }
-        Member::End => {
-            return Found::Nothing;
-        }
-        Member::At { name: n, value: v } => {
-            if !lookup::text_is(s, n, name) {
-                return Found::Nothing;
-            }
-            match lookup::next_member(s, v) {
-                Member::NoObject => {
-                    return Found::Nothing;
-                }
-                Member::End => {
-                    return Found::At(v);
-                }
-                Member::At { name: _, value: _ } => {
-                    return Found::Nothing;
-                }
-            }
-        }
-    }
-}
-
-fn sole_listed(s: &[u8], at: usize) -> ListedAt
-    ensures { λ r. ⌜ Takes (now (s .entry)) at (sole (bytes "snapshot.json") listed) (viewListedAt r) ⌝ }
-{
-    match only_member(s, at, b"snapshot.json") {
-        Found::Nothing => {
             return forms::no_listed();
         }
-        Found::At(x) => {
-            return forms::listed_at(s, x);
+        Member::End(_) => {
+            return forms::no_listed();
+        }
+        Member::At { name: n, value: v } => {
+            if !lookup::text_is(s, n, b"snapshot.json") {
+                return forms::no_listed();
+            }
+            let said = forms::listed_at(s, v);
+            let said_end = said.end;
+            match lookup::next_member_by(s, v, said_end) {
+                Member::NoObject => {
+                    return forms::no_listed();
+                }
+                Member::End(e) => {
+                    let listed = said.listed;
+                    return ListedAt {
+                        ok: said.ok,
+                        listed,
+                        end: Found::At(e),
+                    };
+                }
+                Member::At { name: _, value: _ } => {
+                    return forms::no_listed();
+                }
+            }
         }
     }
 }
 
 // "meta" with the one name `snapshot.json`.
-fn meta_listed(s: &[u8], at: usize) -> ListedAt
-    ensures { λ r. ⌜ Takes (now (s .entry)) at timestampForm (viewListedAt r) ⌝ }
+fn meta_listed(s: &[u8], found: Found) -> ListedAt
+    ensures { λ r. ⌜ TakesMust (now (s .entry)) found (sole (bytes "snapshot.json") listed) (viewListedAt r) × FoundEnd (now (s .entry)) found (r .end) ⌝ }
 {
-    match lookup::find_member(s, at, b"meta") {
+    match found {
         Found::Nothing => {
             return forms::no_listed();
         }
@@ -99,24 +94,31 @@ fn refused(answer: u8) -> TimestampRead
 pub fn read_timestamp(file: &[u8]) -> TimestampRead
     ensures { λ r. ⌜ viewTimestampRead r ≡ some (timestampIn (now (file .entry))) ⌝ }
 {
-    let role = envelope::role_in(file, b"timestamp");
-    if role.answer != 0 {
-        return refused(role.answer);
+    let opened = envelope::open_envelope(file);
+    if opened.answer != 0 {
+        return refused(opened.answer);
     }
-    let body = meta_listed(file, role.start);
+    let start = opened.start;
+    let found = lookup::find_member(file, start, b"meta");
+    let body = meta_listed(file, found);
     if !body.ok {
         return refused(envelope::BAD_FORM);
     }
-    if !role.known {
+    let end = body.end;
+    let header = envelope::header_at(file, start, b"timestamp", lookup::extent_of(found, end));
+    if !header.ok {
+        return refused(envelope::BAD_FORM);
+    }
+    if !header.known {
         return refused(envelope::OTHER_SPEC);
     }
-    let expires = role.expires;
+    let expires = header.expires;
     let snapshot = body.listed;
-    let entries = role.entries;
+    let entries = opened.entries;
     TimestampRead {
         answer: 0,
         timestamp: Timestamp {
-            version: role.version,
+            version: header.version,
             expires,
             snapshot,
         },

@@ -4,13 +4,26 @@ use mathlib.Core.Path.{sym, ap, _∙_}
 use borrow.Author.Tests.{not-true, not-false}
 use Rattle.lookup.specs.Leaves.{viewNumber}
 use Rattle.date.specs.View.{viewDate}
+use Rattle.rules.specs.Forms.{version}
 use Rattle.envelope.specs.Header.{viewSpec, viewHeader}
 use Rattle.envelope.proofs.HeaderLaws.{no-type, no-spec, no-version, no-date, header-is}
 use Rattle.envelope.proofs.header_at.Statement.{statement}
 use Rattle.envelope.proofs.header_at.Tie as tie
 
-slice-aggregate-word-field : tie.Need-slice-aggregate-word-field
-slice-aggregate-word-field c = search needs
+slice-aggregate-find-members : tie.Need-slice-aggregate-find-members
+slice-aggregate-find-members c = search needs
+
+slice-aggregate-find-members-2 : tie.Need-slice-aggregate-find-members-2
+slice-aggregate-find-members-2 c = search needs
+
+slice-aggregate-find-members-3 : tie.Need-slice-aggregate-find-members-3
+slice-aggregate-find-members-3 c = search needs
+
+slice-aggregate-find-members-4 : tie.Need-slice-aggregate-find-members-4
+slice-aggregate-find-members-4 c = search needs
+
+find-members-requires : tie.Need-find-members-requires
+find-members-requires c κs = search needs
 
 word-field-requires : tie.Need-word-field-requires
 word-field-requires c κs = search needs
@@ -19,7 +32,10 @@ no-header-requires : tie.Need-no-header-requires
 no-header-requires c κs = search needs
 
 returns : tie.Need-returns
-returns c = λ v h. c .no-header .ensures ∙ no-type _ v _ (c .before .before .word-field .ensures v h) (not-true _ (c .before .if1 .taken))
+returns c =
+    λ k v h.
+    let m = c .before .before .before .find-members .ensures k in
+    c .no-header .ensures ∙ no-type _ v _ (c .before .before .word-field .ensures _ _ (m .first .means) v h) (not-true _ (c .before .if1 .taken))
 
 spec-field-requires : tie.Need-spec-field-requires
 spec-field-requires c κs = search needs
@@ -29,10 +45,13 @@ no-header-requires-2 c κs = search needs
 
 returns-2 : tie.Need-returns-2
 unfolding viewSpec
-returns-2 c = λ v h. c .no-header2 .ensures ∙ no-spec _ v _ (c .before .before .before .before .before .word-field .ensures v h) (not-false _ (c .before .before .before .before .if1 .left)) _ _ (c .before .before .before .spec-field .ensures v h) (not-true _ (c .before .if2 .taken))
+returns-2 c =
+    λ k v h.
+    let m = c .before .before .before .before .before .before .find-members .ensures k in
+    c .no-header2 .ensures ∙ no-spec _ v _ (c .before .before .before .before .before .word-field .ensures _ _ (m .first .means) v h) (not-false _ (c .before .before .before .before .if1 .left)) _ _ (c .before .before .before .spec-field .ensures _ _ (m .second .means) v h) (not-true _ (c .before .if2 .taken))
 
-version-at-requires : tie.Need-version-at-requires
-version-at-requires c κs = search needs
+version-field-requires : tie.Need-version-field-requires
+version-field-requires c κs = search needs
 
 enum-told : tie.Need-enum-told
 enum-told c = search needs
@@ -41,8 +60,13 @@ no-header-requires-3 : tie.Need-no-header-requires-3
 no-header-requires-3 c κs = search needs
 
 returns-3 : tie.Need-returns-3
-unfolding viewSpec
-returns-3 c = λ v h. c .no-header3 .ensures ∙ no-version _ v _ (c .before .before .before .before .before .before .before .before .word-field .ensures v h) (not-false _ (c .before .before .before .before .before .before .before .if1 .left)) _ _ (c .before .before .before .before .before .before .spec-field .ensures v h) (not-false _ (c .before .before .before .before .if2 .left)) (ap viewNumber (sym (c .before .enum-told .given .1)) ∙ c .before .before .before .version-at .ensures v h)
+unfolding viewSpec version
+returns-3 c =
+    λ k v h.
+    let m = c .before .before .before .before .before .before .before .before .before .find-members .ensures k in
+    c .no-header3 .ensures
+    ∙ no-version _ v _ (c .before .before .before .before .before .before .before .before .word-field .ensures _ _ (m .first .means) v h) (not-false _ (c .before .before .before .before .before .before .before .if1 .left)) _ _ (c .before .before .before .before .before .before .spec-field .ensures _ _ (m .second .means) v h) (not-false _ (c .before .before .before .before .if2 .left))
+    (ap viewNumber (sym (c .before .enum-told .given .1)) ∙ c .before .before .before .version-field .ensures _ _ (m .third .means) v h)
 
 enum-known-version : tie.Need-enum-known-version
 enum-known-version c = search needs
@@ -57,28 +81,43 @@ no-header-requires-4 : tie.Need-no-header-requires-4
 no-header-requires-4 c κs = search needs
 
 returns-4 : tie.Need-returns-4
-unfolding viewSpec
-returns-4 c = λ v h. c .no-header4 .ensures ∙ no-date _ v _ (c .before .before .before .before .before .before .before .before .before .before .before .before .word-field .ensures v h) (not-false _ (c .before .before .before .before .before .before .before .before .before .before .before .if1 .left)) _ _ (c .before .before .before .before .before .before .before .before .before .before .spec-field .ensures v h) (not-false _ (c .before .before .before .before .before .before .before .before .if2 .left)) _ (ap viewNumber (sym (c .before .before .before .before .before .version .given .1)) ∙ c .before .before .before .before .before .before .before .version-at .ensures v h) (ap viewDate (sym (c .before .enum-told2 .given .1)) ∙ c .before .before .before .date-field .ensures v h)
+unfolding viewSpec version
+returns-4 c =
+    λ k v h.
+    let m = c .before .before .before .before .before .before .before .before .before .before .before .before .before .find-members .ensures k in
+    c .no-header4 .ensures
+    ∙ no-date _ v _ (c .before .before .before .before .before .before .before .before .before .before .before .before .word-field .ensures _ _ (m .first .means) v h) (not-false _ (c .before .before .before .before .before .before .before .before .before .before .before .if1 .left)) _ _ (c .before .before .before .before .before .before .before .before .before .before .spec-field .ensures _ _ (m .second .means) v h) (not-false _ (c .before .before .before .before .before .before .before .before .if2 .left))
+    _ (ap viewNumber (sym (c .before .before .before .before .before .version .given .1)) ∙ c .before .before .before .before .before .before .before .version-field .ensures _ _ (m .third .means) v h)
+    (ap viewDate (sym (c .before .enum-told2 .given .1)) ∙ c .before .before .before .date-field .ensures _ _ (m .fourth .means) v h)
 
 enum-known-expires : tie.Need-enum-known-expires
 enum-known-expires c = search needs
 
 returns-5 : tie.Need-returns-5
-unfolding viewSpec viewHeader
-returns-5 c = λ v h. header-is _ v _ (c .before .before .before .before .before .before .before .before .before .before .before .before .word-field .ensures v h) (not-false _ (c .before .before .before .before .before .before .before .before .before .before .before .if1 .left)) _ _ (c .before .before .before .before .before .before .before .before .before .before .spec-field .ensures v h) (not-false _ (c .before .before .before .before .before .before .before .before .if2 .left)) _ (ap viewNumber (sym (c .before .before .before .before .before .version .given .1)) ∙ c .before .before .before .before .before .before .before .version-at .ensures v h) _ (ap viewDate (sym (c .before .expires .given .1)) ∙ c .before .before .before .date-field .ensures v h)
+unfolding viewSpec version viewHeader
+returns-5 c =
+    λ k v h.
+    let m = c .before .before .before .before .before .before .before .before .before .before .before .before .before .find-members .ensures k in
+    header-is _ v _ (c .before .before .before .before .before .before .before .before .before .before .before .before .word-field .ensures _ _ (m .first .means) v h) (not-false _ (c .before .before .before .before .before .before .before .before .before .before .before .if1 .left)) _ _ (c .before .before .before .before .before .before .before .before .before .before .spec-field .ensures _ _ (m .second .means) v h) (not-false _ (c .before .before .before .before .before .before .before .before .if2 .left))
+    _ (ap viewNumber (sym (c .before .before .before .before .before .version .given .1)) ∙ c .before .before .before .before .before .before .before .version-field .ensures _ _ (m .third .means) v h)
+    _ (ap viewDate (sym (c .before .expires .given .1)) ∙ c .before .before .before .date-field .ensures _ _ (m .fourth .means) v h)
 
 pub header-at-spec : {M : Type 1} → statement M
 header-at-spec =
     tie.close
     (tie.spec
-    slice-aggregate-word-field
+    slice-aggregate-find-members
+    slice-aggregate-find-members-2
+    slice-aggregate-find-members-3
+    slice-aggregate-find-members-4
+    find-members-requires
     word-field-requires
     no-header-requires
     returns
     spec-field-requires
     no-header-requires-2
     returns-2
-    version-at-requires
+    version-field-requires
     enum-told
     no-header-requires-3
     returns-3

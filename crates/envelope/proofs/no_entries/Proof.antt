@@ -1,4 +1,4 @@
--- `no_entries` gives nothing.
+-- `no_entries` meets its contract.
 use borrow.Author.Needs.{needs}
 use mathlib.Core.Path.{refl}
 use Rattle.json.specs.Fields.{keep}
@@ -11,7 +11,7 @@ no-ids-requires c κs = search needs
 
 returns : tie.Need-returns
 unfolding viewEntriesAt keep
-returns c = refl
+returns c = (refl, refl)
 
 pub no-entries-spec : {M : Type 1} → statement M
 no-entries-spec = tie.close (tie.spec no-ids-requires returns)

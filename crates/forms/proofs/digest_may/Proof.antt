@@ -1,49 +1,35 @@
 -- `digest_may` meets its contract.
 use borrow.Author.Needs.{needs}
+use mathlib.Core.Path.{refl}
+use Rattle.json.specs.Fields.{keep}
+use Rattle.forms.specs.View.{viewMayId}
 use Rattle.forms.proofs.StepLaws.{may-none, may-at}
 use Rattle.forms.proofs.ListedLaws.{digest-given}
-use Rattle.json.specs.Fields.{keep}
-use Rattle.rules.specs.Forms.{sha256}
-use Rattle.forms.specs.View.{viewMayId}
-use mathlib.Core.Path.{refl}
 use Rattle.forms.proofs.digest_may.Statement.{statement}
 use Rattle.forms.proofs.digest_may.Tie as tie
-
-slice-aggregate-find-member : tie.Need-slice-aggregate-find-member
-slice-aggregate-find-member c = search needs
-
-find-member-requires : tie.Need-find-member-requires
-find-member-requires c κs = search needs
 
 enum-told : tie.Need-enum-told
 enum-told c = search needs
 
 returns : tie.Need-returns
 unfolding viewMayId keep
-returns c = may-none _ _ _ (c .before .before .find-member .ensures .means) _ _ (c .enum-told .given .1) refl
+returns c = λ p k w. may-none _ p k w _ _ (c .enum-told .given .1) refl
 
-enum-known-x : tie.Need-enum-known-x
-enum-known-x c = search needs
+enum-known-found : tie.Need-enum-known-found
+enum-known-found c = search needs
 
-slice-aggregate-id-field : tie.Need-slice-aggregate-id-field
-slice-aggregate-id-field c = search needs
-
-id-field-requires : tie.Need-id-field-requires
-id-field-requires c κs = search needs
+digest-at-requires : tie.Need-digest-at-requires
+digest-at-requires c κs = search needs
 
 returns-2 : tie.Need-returns-2
-unfolding sha256
-returns-2 c = may-at _ _ _ (c .before .before .before .before .before .before .find-member .ensures .means) _ _ _ (c .before .before .before .before .x .given .1) _ (c .before .id-field .ensures) (digest-given (c .before .id-field .result))
+returns-2 c = λ p k w. may-at _ p k w _ _ _ (c .before .before .before .found .given .1) _ (c .before .digest-at .ensures) (digest-given (c .before .digest-at .result))
 
 pub digest-may-spec : {M : Type 1} → statement M
 digest-may-spec =
     tie.close
     (tie.spec
-    slice-aggregate-find-member
-    find-member-requires
     enum-told
     returns
-    enum-known-x
-    slice-aggregate-id-field
-    id-field-requires
+    enum-known-found
+    digest-at-requires
     returns-2)

@@ -4,9 +4,6 @@ use Rattle.forms.proofs.StepLaws.{must-none, must-at}
 use Rattle.forms.proofs.id_field.Statement.{statement}
 use Rattle.forms.proofs.id_field.Tie as tie
 
-find-member-requires : tie.Need-find-member-requires
-find-member-requires c κs = search needs
-
 enum-told : tie.Need-enum-told
 enum-told c = search needs
 
@@ -14,25 +11,24 @@ no-id-requires : tie.Need-no-id-requires
 no-id-requires c κs = search needs
 
 returns : tie.Need-returns
-returns c = must-none _ _ _ (c .before .before .before .find-member .ensures .means) _ _ (c .before .enum-told .given .1) (c .no-id .ensures)
+returns c = λ p k w. must-none _ p k w _ _ (c .before .enum-told .given .1) (c .no-id .ensures)
 
-enum-known-x : tie.Need-enum-known-x
-enum-known-x c = search needs
+enum-known-found : tie.Need-enum-known-found
+enum-known-found c = search needs
 
 id-at-requires : tie.Need-id-at-requires
 id-at-requires c κs = search needs
 
 returns-2 : tie.Need-returns-2
-returns-2 c = must-at _ _ _ (c .before .before .before .before .find-member .ensures .means) _ _ _ (c .before .before .x .given .1) (c .id-at .ensures)
+returns-2 c = λ p k w. must-at _ p k w _ _ _ (c .before .before .found .given .1) (c .id-at .ensures)
 
 pub id-field-spec : {M : Type 1} → statement M
 id-field-spec =
     tie.close
     (tie.spec
-    find-member-requires
     enum-told
     no-id-requires
     returns
-    enum-known-x
+    enum-known-found
     id-at-requires
     returns-2)

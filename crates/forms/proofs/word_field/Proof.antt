@@ -1,31 +1,33 @@
 -- `word_field` meets its contract.
 use borrow.Author.Needs.{needs}
-use Rattle.forms.proofs.StepLaws.{must-none, must-at}
-use Rattle.json.specs.Fields.{keep}
 use mathlib.Core.Path.{refl}
+use Rattle.json.specs.Fields.{keep}
+use Rattle.forms.proofs.StepLaws.{must-none, must-at}
 use Rattle.forms.proofs.word_field.Statement.{statement}
 use Rattle.forms.proofs.word_field.Tie as tie
-
-find-member-requires : tie.Need-find-member-requires
-find-member-requires c κs = search needs
 
 enum-told : tie.Need-enum-told
 enum-told c = search needs
 
 returns : tie.Need-returns
 unfolding keep
-returns c = must-none _ _ _ (c .before .before .find-member .ensures .means) _ _ (c .enum-told .given .1) refl
+returns c = λ p k w. must-none _ p k w _ _ (c .enum-told .given .1) refl
 
-enum-known-x : tie.Need-enum-known-x
-enum-known-x c = search needs
+enum-known-found : tie.Need-enum-known-found
+enum-known-found c = search needs
 
 word-at-requires : tie.Need-word-at-requires
 word-at-requires c κs = search needs
 
 returns-2 : tie.Need-returns-2
-returns-2 c = must-at _ _ _ (c .before .before .before .before .find-member .ensures .means) _ _ _ (c .before .before .x .given .1) (c .word-at .ensures)
+returns-2 c = λ p k w. must-at _ p k w _ _ _ (c .before .before .found .given .1) (c .word-at .ensures)
 
 pub word-field-spec : {M : Type 1} → statement M
 word-field-spec =
     tie.close
-    (tie.spec find-member-requires enum-told returns enum-known-x word-at-requires returns-2)
+    (tie.spec
+    enum-told
+    returns
+    enum-known-found
+    word-at-requires
+    returns-2)

@@ -51,7 +51,7 @@ returns-3 c =
     let a = c .before .before .before .before .before .before .before .before .before .before .before .args in
     let o = c .before .before .before .before .before .before .before .before .before .open-envelope in
     asked-some (a .file .now) (a .place) (o .result) (o .ensures) (c .before .before .before .before .before .before .before .if1 .left) _ (c .before .before .before .before .before .before .find-entry .ensures) _ (c .before .before .before .before .at .given .1) _ _
-    (c .before .before .entry-at .ensures)
+    (c .before .before .entry-at .ensures .0)
 
 pub entry-spec : {M : Type 1} → statement M
 entry-spec =

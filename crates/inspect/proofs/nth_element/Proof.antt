@@ -57,7 +57,7 @@ enum-told-2 c = search needs
 returns-3 : tie.Need-returns-3 Inv-loop μ-loop
 returns-3 c =
     let l = c .before .before .loop in
-    λ v h. nth-end (c .before .before .before .before .before .args .s .now) (l .e) (l .left) _ (l .inv v h) (c .enum-told2 .given .1)
+    λ v h. nth-end (c .before .before .before .before .before .args .s .now) (l .e) (l .left) _ (l .inv v h) _ (c .enum-told2 .given .1)
 
 pub nth-element-spec : {M : Type 1} → statement M
 nth-element-spec =

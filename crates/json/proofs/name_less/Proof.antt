@@ -18,6 +18,9 @@ Inv-loop s a b i₀ j₀ i j = less (raw (drop a s)) (raw (drop b s)) ≡ less (
 abbrev μ-loop : tie.MeasureT-loop
 μ-loop s a b i₀ j₀ i j = length s - i
 
+shared-end-requires : tie.Need-shared-end-requires Inv-loop μ-loop
+shared-end-requires c κs = search needs
+
 loop-holds : tie.Need-loop-holds Inv-loop μ-loop
 loop-holds c = search needs
 
@@ -30,7 +33,7 @@ enum-told c = search needs
 returns : tie.Need-returns Inv-loop μ-loop
 returns c =
     let l = c .before .before .before in
-    let s = l .before .before .args .s .now in
+    let s = l .before .before .before .args .s .now in
     let y : CharAt s (l .loop .j) Close = rw (c .enum-told .given .1) at (c .before .before .char-at .ensures .means) in
     sym (l .loop .inv ∙ names.less-end (raw (drop (l .loop .i) s)) (raw (drop (l .loop .j) s)) y)
 
@@ -47,7 +50,7 @@ returns-2 : tie.Need-returns-2 Inv-loop μ-loop
 returns-2 c =
     let v = c .before .before .before .before in
     let l = v .before .before .before in
-    let s = l .before .before .args .s .now in
+    let s = l .before .before .before .args .s .now in
     let y : CharAt s (l .loop .j) (Byte (v .y .given .0 .0) (v .y .given .0 .1 .0)) = rw (v .y .given .1) at (v .before .before .char-at .ensures .means) in
     let x : CharAt s (l .loop .i) Close = rw (c .enum-told2 .given .1) at (c .before .before .char-at2 .ensures .means) in
     sym (l .loop .inv ∙ names.less-short (raw (drop (l .loop .i) s)) (raw (drop (l .loop .j) s)) _ _ x (y .0))
@@ -60,7 +63,7 @@ returns-3 c =
     let u = c .before .before in
     let v = u .before .before .before .before in
     let l = v .before .before .before in
-    let s = l .before .before .args .s .now in
+    let s = l .before .before .before .args .s .now in
     let y : CharAt s (l .loop .j) (Byte (v .y .given .0 .0) (v .y .given .0 .1 .0)) = rw (v .y .given .1) at (v .before .before .char-at .ensures .means) in
     let x : CharAt s (l .loop .i) (Byte (u .x .given .0 .0) (u .x .given .0 .1 .0)) = rw (u .x .given .1) at (u .before .before .char-at2 .ensures .means) in
     sym (l .loop .inv ∙ names.less-differ (raw (drop (l .loop .i) s)) (raw (drop (l .loop .j) s)) _ _ _ _ (x .0) (y .0) (c .if1 .taken))
@@ -69,7 +72,7 @@ loop-less : tie.Need-loop-less Inv-loop μ-loop
 loop-less c =
     let u = c .before .before in
     let l = u .before .before .before .before .before .before .before in
-    let s = l .before .before .args .s .now in
+    let s = l .before .before .before .args .s .now in
     let x : CharAt s (l .loop .i) (Byte (u .x .given .0 .0) (u .x .given .0 .1 .0)) = rw (u .x .given .1) at (u .before .before .char-at2 .ensures .means) in
     omega (arith, x .1, x .2)
 
@@ -78,7 +81,7 @@ loop-again c =
     let u = c .before .before in
     let v = u .before .before .before .before in
     let l = v .before .before .before in
-    let s = l .before .before .args .s .now in
+    let s = l .before .before .before .args .s .now in
     let y : CharAt s (l .loop .j) (Byte (v .y .given .0 .0) (v .y .given .0 .1 .0)) = rw (v .y .given .1) at (v .before .before .char-at .ensures .means) in
     let x : CharAt s (l .loop .i) (Byte (u .x .given .0 .0) (u .x .given .0 .1 .0)) = rw (u .x .given .1) at (u .before .before .char-at2 .ensures .means) in
     l .loop .inv ∙ names.less-same (raw (drop (l .loop .i) s)) (raw (drop (l .loop .j) s)) _ _ _ _ (x .0) (y .0) (c .if1 .left)
@@ -89,6 +92,7 @@ name-less-spec =
     (tie.spec
     Inv-loop
     μ-loop
+    shared-end-requires
     loop-holds
     char-at-requires
     enum-told

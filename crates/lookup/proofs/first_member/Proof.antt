@@ -14,11 +14,14 @@ enum-told c = search needs
 returns : tie.Need-returns
 returns c = record { means = members.first-by _ _ (c .before .before .opened .ensures) (rw (c .enum-told .given .1) members.by-none); onward = tt; place = tt }
 
-enum-told-2 : tie.Need-enum-told-2
-enum-told-2 c = search needs
+enum-known-e : tie.Need-enum-known-e
+enum-known-e c = search needs
 
 returns-2 : tie.Need-returns-2
-returns-2 c = record { means = members.first-by _ _ (c .before .before .opened .ensures) (rw (c .enum-told2 .given .1) members.by-end); onward = tt; place = tt }
+returns-2 c =
+    let q = c .before .e .given .1 in
+    let o = c .before .before .before .opened .ensures in
+    record { means = members.first-by _ _ o (rw q members.by-end); onward = items.closed-after _ _ _ (o .onward) _ q; place = tt }
 
 enum-known-i : tie.Need-enum-known-i
 enum-known-i c = search needs
@@ -40,7 +43,7 @@ first-member-spec =
     opened-requires
     enum-told
     returns
-    enum-told-2
+    enum-known-e
     returns-2
     enum-known-i
     member-at-requires

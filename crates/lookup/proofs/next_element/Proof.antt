@@ -8,7 +8,7 @@ following-requires : tie.Need-following-requires
 following-requires c κs = search needs
 
 returns : tie.Need-returns
-returns c = record { means = items.next-items _ _ (c .following .ensures); onward = c .following .ensures .onward; place = λ v h j q. items.follows-place _ _ _ _ (c .following .ensures) j q v h }
+returns c = items.next-of _ _ _ _ (c .following .ensures) tt
 
 pub next-element-spec : {M : Type 1} → statement M
 next-element-spec = tie.close (tie.spec following-requires returns)

@@ -19,16 +19,19 @@ add-i : tie.Need-add-i
 add-i c = search needs
 
 returns-3 : tie.Need-returns-3
-returns-3 c = record { is = sym (items.open-here _ _ _ _ (c .before .before .before .if1 .left) (c .before .if2 .left) ∙ items.close-cut _ _ _ _ (c .if3 .taken)); onward = tt }
+returns-3 c = record { is = sym (items.open-here _ _ _ _ (c .before .before .before .if1 .left) (c .before .if2 .left) ∙ items.close-cut _ _ _ _ _ (c .if3 .taken)); onward = tt }
 
 shared-slice-read-if4 : tie.Need-shared-slice-read-if4
 shared-slice-read-if4 c = search needs
 
+add-t11 : tie.Need-add-t11
+add-t11 c = search needs
+
 returns-4 : tie.Need-returns-4
-returns-4 c = record { is = sym (items.open-here _ _ _ _ (c .before .before .before .before .before .if1 .left) (c .before .before .before .if2 .left) ∙ items.close-here _ _ _ _ (c .before .before .if3 .left) (c .if4 .taken)); onward = tt }
+returns-4 c = record { is = sym (items.open-here _ _ _ _ (c .before .before .before .before .before .if1 .left) (c .before .before .before .if2 .left) ∙ items.close-here _ _ _ _ _ (c .before .before .if3 .left) (c .if4 .taken)); onward = (omega arith, omega arith) }
 
 returns-5 : tie.Need-returns-5
-returns-5 c = record { is = sym (items.open-here _ _ _ _ (c .before .before .before .before .before .if1 .left) (c .before .before .before .if2 .left) ∙ items.close-later _ _ _ _ (c .before .before .if3 .left) (c .if4 .left)); onward = (omega arith, omega arith) }
+returns-5 c = record { is = sym (items.open-here _ _ _ _ (c .before .before .before .before .before .if1 .left) (c .before .before .before .if2 .left) ∙ items.close-later _ _ _ _ _ (c .before .before .if3 .left) (c .if4 .left)); onward = (omega arith, omega arith) }
 
 pub opened-spec : {M : Type 1} → statement M
 opened-spec =
@@ -40,5 +43,6 @@ opened-spec =
     add-i
     returns-3
     shared-slice-read-if4
+    add-t11
     returns-4
     returns-5)

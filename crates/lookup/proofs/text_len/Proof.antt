@@ -15,8 +15,17 @@ Inv-loop s i p₀ n₀ p n = (n ≤ p) × (length (raw (drop i s)) ≡ n + lengt
 abbrev μ-loop : tie.MeasureT-loop
 μ-loop s i p₀ n₀ p n = length s - p
 
+bare-end-requires : tie.Need-bare-end-requires Inv-loop μ-loop
+bare-end-requires c κs = search needs
+
+sub-n : tie.Need-sub-n Inv-loop μ-loop
+sub-n c = omega (arith, c .bare-end .ensures .1)
+
 loop-holds : tie.Need-loop-holds Inv-loop μ-loop
-loop-holds c = (omega arith, omega arith)
+loop-holds c =
+    let k = c .bare-end .ensures .0 .counts in
+    let o = c .bare-end .ensures .1 in
+    (omega arith, omega arith)
 
 char-at-requires : tie.Need-char-at-requires Inv-loop μ-loop
 char-at-requires c κs = search needs
@@ -26,7 +35,7 @@ enum-told c = search needs
 
 returns : tie.Need-returns Inv-loop μ-loop
 returns c =
-    let a = c .before .before .before .before .before .args in
+    let a = c .before .before .before .before .before .before .args in
     let s = a .s .now in
     let l = c .before .before .before .loop in
     let e = strings.char-close s (l .p) _ (c .before .before .char-at .ensures .means) (c .enum-told .given .1) in
@@ -38,7 +47,7 @@ enum-known-next c = search needs
 
 add-n : tie.Need-add-n Inv-loop μ-loop
 add-n c =
-    let a = c .before .before .before .before .before .before .args in
+    let a = c .before .before .before .before .before .before .before .args in
     let s = a .s .now in
     let l = c .before .before .before .before .loop in
     let x = strings.char-byte s (l .p) _ (c .before .before .before .char-at .ensures .means) _ _ (c .before .next .given .1) in
@@ -48,7 +57,7 @@ add-n c =
 
 loop-less : tie.Need-loop-less Inv-loop μ-loop
 loop-less c =
-    let a = c .before .before .before .before .before .before .args in
+    let a = c .before .before .before .before .before .before .before .args in
     let s = a .s .now in
     let l = c .before .before .before .before .loop in
     let x = strings.char-byte s (l .p) _ (c .before .before .before .char-at .ensures .means) _ _ (c .before .next .given .1) in
@@ -58,7 +67,7 @@ loop-less c =
 
 loop-again : tie.Need-loop-again Inv-loop μ-loop
 loop-again c =
-    let a = c .before .before .before .before .before .before .args in
+    let a = c .before .before .before .before .before .before .before .args in
     let s = a .s .now in
     let l = c .before .before .before .before .loop in
     let x = strings.char-byte s (l .p) _ (c .before .before .before .char-at .ensures .means) _ _ (c .before .next .given .1) in
@@ -72,6 +81,8 @@ text-len-spec =
     (tie.spec
     Inv-loop
     μ-loop
+    bare-end-requires
+    sub-n
     loop-holds
     char-at-requires
     enum-told

@@ -1,28 +1,22 @@
 -- `has_snapshot_rule` meets its contract.
 use borrow.Author.Needs.{needs}
 use mathlib.Core.Path.{refl, sym, ap, _∙_}
-use Rattle.forms.proofs.StepLaws.{must-none, must-at}
 use Rattle.json.specs.Fields.{keep}
 use Rattle.lookup.specs.Leaves.{viewTruth}
+use Rattle.forms.proofs.StepLaws.{must-none, must-at}
 use Rattle.root_file.proofs.BodyLaws.{truth-not, truth-said}
 use Rattle.root_file.proofs.has_snapshot_rule.Statement.{statement}
 use Rattle.root_file.proofs.has_snapshot_rule.Tie as tie
-
-slice-aggregate-find-member : tie.Need-slice-aggregate-find-member
-slice-aggregate-find-member c = search needs
-
-find-member-requires : tie.Need-find-member-requires
-find-member-requires c κs = search needs
 
 enum-told : tie.Need-enum-told
 enum-told c = search needs
 
 returns : tie.Need-returns
 unfolding keep
-returns c = must-none _ _ _ ((c .before .before) .find-member .ensures .means) _ _ (c .enum-told .given .1) refl
+returns c = λ p k w. must-none _ p k w _ _ (c .enum-told .given .1) refl
 
-enum-known-x : tie.Need-enum-known-x
-enum-known-x c = search needs
+enum-known-found : tie.Need-enum-known-found
+enum-known-found c = search needs
 
 truth-at-requires : tie.Need-truth-at-requires
 truth-at-requires c κs = search needs
@@ -31,23 +25,21 @@ enum-told-2 : tie.Need-enum-told-2
 enum-told-2 c = search needs
 
 returns-2 : tie.Need-returns-2
-returns-2 c = must-at _ _ _ ((c .before .before .before .before .before .before) .find-member .ensures .means) _ _ _ ((c .before .before .before .before) .x .given .1) (truth-not _ _ (ap viewTruth (sym (c .enum-told2 .given .1)) ∙ (c .before .before) .truth-at .ensures))
+returns-2 c = λ p k w. must-at _ p k w _ _ _ (c .before .before .before .before .found .given .1) (truth-not _ _ (ap viewTruth (sym (c .enum-told2 .given .1)) ∙ c .before .before .truth-at .ensures))
 
 enum-told-3 : tie.Need-enum-told-3
 enum-told-3 c = search needs
 
 returns-3 : tie.Need-returns-3
-returns-3 c = must-at _ _ _ ((c .before .before .before .before .before .before) .find-member .ensures .means) _ _ _ ((c .before .before .before .before) .x .given .1) (truth-said _ _ _ (ap viewTruth (sym (c .enum-told3 .given .1)) ∙ (c .before .before) .truth-at .ensures))
+returns-3 c = λ p k w. must-at _ p k w _ _ _ (c .before .before .before .before .found .given .1) (truth-said _ _ _ (ap viewTruth (sym (c .enum-told3 .given .1)) ∙ c .before .before .truth-at .ensures))
 
 pub has-snapshot-rule-spec : {M : Type 1} → statement M
 has-snapshot-rule-spec =
     tie.close
     (tie.spec
-    slice-aggregate-find-member
-    find-member-requires
     enum-told
     returns
-    enum-known-x
+    enum-known-found
     truth-at-requires
     enum-told-2
     returns-2

@@ -6,9 +6,6 @@ use Rattle.root_file.specs.View.{viewRoleAt}
 use Rattle.root_file.proofs.role_field.Statement.{statement}
 use Rattle.root_file.proofs.role_field.Tie as tie
 
-find-member-requires : tie.Need-find-member-requires
-find-member-requires c κs = search needs
-
 enum-told : tie.Need-enum-told
 enum-told c = search needs
 
@@ -17,25 +14,24 @@ no-role-requires c κs = search needs
 
 returns : tie.Need-returns
 unfolding viewRoleAt
-returns c = must-none _ _ _ ((c .before .before .before) .find-member .ensures .means) _ _ ((c .before) .enum-told .given .1) (cut _ _ (c .no-role .ensures))
+returns c = λ p k w. must-none _ p k w _ _ (c .before .enum-told .given .1) (cut _ _ (c .no-role .ensures))
 
-enum-known-x : tie.Need-enum-known-x
-enum-known-x c = search needs
+enum-known-found : tie.Need-enum-known-found
+enum-known-found c = search needs
 
 role-at-requires : tie.Need-role-at-requires
 role-at-requires c κs = search needs
 
 returns-2 : tie.Need-returns-2
-returns-2 c = must-at _ _ _ ((c .before .before .before .before) .find-member .ensures .means) _ _ _ ((c .before .before) .x .given .1) (c .role-at .ensures)
+returns-2 c = λ p k w. must-at _ p k w _ _ _ (c .before .before .found .given .1) (c .role-at .ensures)
 
 pub role-field-spec : {M : Type 1} → statement M
 role-field-spec =
     tie.close
     (tie.spec
-    find-member-requires
     enum-told
     no-role-requires
     returns
-    enum-known-x
+    enum-known-found
     role-at-requires
     returns-2)

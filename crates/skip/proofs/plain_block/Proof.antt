@@ -3,13 +3,13 @@ use mathlib.Core.Path.{_≡_}
 use mathlib.Core.Bool.{true}
 use Prim.Native.Nat.{_≤_, _+_, _-_}
 use native.Mathlib.Omega.{arith}
-use Rattle.skip.specs.Skim.{Plain}
+use Rattle.skip.specs.Skim.{Bare}
 use Rattle.skip.proofs.StepLaws.{block-start, block-next, block-whole}
 use Rattle.skip.proofs.plain_block.Statement.{statement}
 use Rattle.skip.proofs.plain_block.Tie as tie
 
 abbrev Inv-loop : tie.InvT-loop
-Inv-loop s at plain₀ k₀ plain k = (k ≤ 16) × (plain ≡ true → Plain s at (at + k))
+Inv-loop s at plain₀ k₀ plain k = (k ≤ 16) × (plain ≡ true → Bare s at (at + k))
 
 abbrev μ-loop : tie.MeasureT-loop
 μ-loop s at plain₀ k₀ plain k = 16 - k

@@ -5,18 +5,19 @@ use native.Mathlib.Omega.{arith}
 use borrow.Author.Needs.{needs}
 use borrow.Author.Tests.{not-false}
 use lib.ListN.{length}
-use Rattle.skip.specs.Skim.{Leads, Plain}
+use Rattle.skip.specs.Skim.{Leads, Bare}
+use Rattle.skip.proofs.StepLaws.{bare-none, bare-then}
 use Rattle.skip.proofs.plain_run.Statement.{statement}
 use Rattle.skip.proofs.plain_run.Tie as tie
 
 abbrev Inv-loop : tie.InvT-loop
-Inv-loop s at i₀ i = Leads s at i (Plain s at i)
+Inv-loop s at i₀ i = Leads s at i (Bare s at i)
 
 abbrev μ-loop : tie.MeasureT-loop
 μ-loop s at i₀ i = length s - i
 
 loop-holds : tie.Need-loop-holds Inv-loop μ-loop
-loop-holds c = record { means = λ n. refl; onward = omega arith; within = c .before .pre }
+loop-holds c = record { means = bare-none _ _; onward = omega arith; within = c .before .pre }
 
 sub-if1 : tie.Need-sub-if1 Inv-loop μ-loop
 sub-if1 c = search needs
@@ -40,7 +41,7 @@ loop-again : tie.Need-loop-again Inv-loop μ-loop
 loop-again c =
     let l = c .before .before .before .before .loop in
     let on = c .before .plain-block .ensures (not-false _ (c .if2 .left)) in
-    record { means = λ n. l .inv .means n ∙ on n; onward = omega arith; within = omega arith }
+    record { means = bare-then _ _ _ _ (l .inv .means) on; onward = omega arith; within = omega arith }
 
 returns-3 : tie.Need-returns-3 Inv-loop μ-loop
 returns-3 c = c .before .loop .inv

@@ -19,7 +19,9 @@ plain-run-requires : tie.Need-plain-run-requires Inv-loop μ-loop
 plain-run-requires c κs = c .before .pre
 
 loop-holds : tie.Need-loop-holds Inv-loop μ-loop
-loop-holds c = c .plain-run .ensures
+loop-holds c =
+    let r = c .plain-run .ensures in
+    record { means = r .means .plain; onward = r .onward; within = r .within }
 
 shared-slice-read-b : tie.Need-shared-slice-read-b Inv-loop μ-loop
 shared-slice-read-b c = search needs
@@ -74,7 +76,7 @@ loop-again-2 c =
     let l = c .before .before .before .before .before .before .loop in
     let r = c .plain-run2 .ensures in
     let on = string-escape s (l .i) (c .before .before .before .before .before .loop-test .taken) (c .before .before .if2 .left) (omega arith) in
-    record { means = λ n. l .inv .means n ∙ on n ∙ r .means n; onward = omega arith; within = r .within }
+    record { means = λ n. l .inv .means n ∙ on n ∙ r .means .plain n; onward = omega arith; within = r .within }
 
 returns-3 : tie.Need-returns-3 Inv-loop μ-loop
 returns-3 c =

@@ -1,15 +1,9 @@
 -- `meta_names` meets its contract.
 use borrow.Author.Needs.{needs}
-use Rattle.rules.specs.Forms.{snapshot}
+use Rattle.lookup.proofs.StandsLaws.{end-of-none, end-of-found}
 use Rattle.forms.proofs.StepLaws.{must-none, must-at}
 use Rattle.snapshot_file.proofs.meta_names.Statement.{statement}
 use Rattle.snapshot_file.proofs.meta_names.Tie as tie
-
-slice-aggregate-find-member : tie.Need-slice-aggregate-find-member
-slice-aggregate-find-member c = search needs
-
-find-member-requires : tie.Need-find-member-requires
-find-member-requires c κs = search needs
 
 enum-told : tie.Need-enum-told
 enum-told c = search needs
@@ -18,28 +12,24 @@ no-names-requires : tie.Need-no-names-requires
 no-names-requires c κs = search needs
 
 returns : tie.Need-returns
-unfolding snapshot
-returns c = must-none _ _ _ (c .before .before .before .find-member .ensures .means) _ _ (c .before .enum-told .given .1) (c .no-names .ensures)
+returns c = (λ p k w. must-none _ p k w _ _ (c .before .enum-told .given .1) (c .no-names .ensures .0), end-of-none _ _ _ (c .before .enum-told .given .1))
 
-enum-known-x : tie.Need-enum-known-x
-enum-known-x c = search needs
+enum-known-found : tie.Need-enum-known-found
+enum-known-found c = search needs
 
 names-at-requires : tie.Need-names-at-requires
 names-at-requires c κs = search needs
 
 returns-2 : tie.Need-returns-2
-unfolding snapshot
-returns-2 c = must-at _ _ _ (c .before .before .before .before .find-member .ensures .means) _ _ _ (c .before .before .x .given .1) (c .names-at .ensures)
+returns-2 c = (λ p k w. must-at _ p k w _ _ _ (c .before .before .found .given .1) (c .names-at .ensures .0), end-of-found _ _ _ _ (c .before .before .found .given .1) (c .names-at .ensures .1))
 
 pub meta-names-spec : {M : Type 1} → statement M
 meta-names-spec =
     tie.close
     (tie.spec
-    slice-aggregate-find-member
-    find-member-requires
     enum-told
     no-names-requires
     returns
-    enum-known-x
+    enum-known-found
     names-at-requires
     returns-2)

@@ -1,4 +1,4 @@
--- `no_named` gives nothing.
+-- `no_named` meets its contract.
 use borrow.Author.Needs.{needs}
 use mathlib.Core.Path.{refl}
 use Rattle.json.specs.Fields.{keep}
@@ -11,7 +11,7 @@ no-listed-requires c κs = search needs
 
 returns : tie.Need-returns
 unfolding viewNamedAt keep
-returns c = refl
+returns c = (refl, refl)
 
 pub no-named-spec : {M : Type 1} → statement M
 no-named-spec = tie.close (tie.spec no-listed-requires returns)

@@ -1,4 +1,4 @@
--- `no_names` gives nothing.
+-- `no_names` meets its contract.
 use borrow.Author.Needs.{needs}
 use mathlib.Core.Path.{refl}
 use Rattle.json.specs.Fields.{keep}
@@ -11,7 +11,7 @@ no-named-requires c κs = search needs
 
 returns : tie.Need-returns
 unfolding viewNamesAt keep
-returns c = refl
+returns c = (refl, refl)
 
 pub no-names-spec : {M : Type 1} → statement M
 no-names-spec = tie.close (tie.spec no-named-requires returns)

@@ -1,27 +1,33 @@
--- `read_snapshot` meets its contract: each way out is a law of a role's file.
+-- `read_snapshot` meets its contract.
 use borrow.Author.Needs.{needs}
 use mathlib.Core.Path.{refl}
 use borrow.Author.Tests.{not-true, not-false}
+use Rattle.envelope.specs.Header.{viewHeader}
+use Rattle.envelope.proofs.RoleLaws.{role-refused, role-broken, role-headless, role-other, role-says}
+use Rattle.rules.specs.Forms.{snapshot}
 use Rattle.rules.specs.Reading.{readSnapshot}
 use Rattle.rules.specs.State.{keepSnapshot, snapshotIn}
 use Rattle.records.specs.View.{viewSnapshot}
-use Rattle.envelope.proofs.RoleLaws.{role-refused, role-broken, role-other, role-says}
 use Rattle.snapshot_file.specs.View.{viewNamesAt, viewSnapshotRead}
 use Rattle.snapshot_file.proofs.read_snapshot.Statement.{statement}
 use Rattle.snapshot_file.proofs.read_snapshot.Tie as tie
 
-slice-aggregate-role-in : tie.Need-slice-aggregate-role-in
-slice-aggregate-role-in c = search needs
-
-role-in-requires : tie.Need-role-in-requires
-role-in-requires c κs = search needs
+open-envelope-requires : tie.Need-open-envelope-requires
+open-envelope-requires c κs = search needs
 
 refused-requires : tie.Need-refused-requires
 refused-requires c κs = search needs
 
 returns : tie.Need-returns
-unfolding snapshotIn readSnapshot viewSnapshotRead
-returns c = role-refused _ _ keepSnapshot _ (c .before .before .before .role-in .result) (c .before .before .before .role-in .ensures) _ _ _ (c .before .if1 .taken) (c .refused .ensures)
+unfolding snapshotIn readSnapshot snapshot viewSnapshotRead
+returns c =
+    role-refused _ _ keepSnapshot (c .before .before .before .before .before .args .file .now) (c .before .before .before .open-envelope .result) (c .before .before .before .open-envelope .ensures) _ _ _ (c .before .if1 .taken) (c .refused .ensures)
+
+slice-aggregate-find-member : tie.Need-slice-aggregate-find-member
+slice-aggregate-find-member c = search needs
+
+find-member-requires : tie.Need-find-member-requires
+find-member-requires c κs = search needs
 
 meta-names-requires : tie.Need-meta-names-requires
 meta-names-requires c κs = search needs
@@ -30,31 +36,60 @@ refused-requires-2 : tie.Need-refused-requires-2
 refused-requires-2 c κs = search needs
 
 returns-2 : tie.Need-returns-2
-unfolding snapshotIn readSnapshot viewSnapshotRead viewNamesAt
-returns-2 c = role-broken _ _ keepSnapshot _ (c .before .before .before .before .before .before .role-in .result) (c .before .before .before .before .before .before .role-in .ensures) _ _ _ (c .before .before .before .before .if1 .left) _ _ (c .before .before .before .meta-names .ensures) (not-true _ (c .before .if2 .taken)) (c .refused2 .ensures)
+unfolding snapshotIn readSnapshot snapshot viewSnapshotRead viewNamesAt
+returns-2 c =
+    role-broken _ _ keepSnapshot (c .before .before .before .before .before .before .before .before .before .before .args .file .now) (c .before .before .before .before .before .before .before .before .open-envelope .result) (c .before .before .before .before .before .before .before .before .open-envelope .ensures) _ _ _ (c .before .before .before .before .before .before .if1 .left) _ _ (c .before .before .before .meta-names .ensures .0 _ _ (c .before .before .before .before .find-member .ensures .means)) (not-true _ (c .before .if2 .taken)) (c .refused2 .ensures)
+
+slice-aggregate-header-at : tie.Need-slice-aggregate-header-at
+slice-aggregate-header-at c = search needs
+
+extent-of-requires : tie.Need-extent-of-requires
+extent-of-requires c κs = search needs
+
+header-at-requires : tie.Need-header-at-requires
+header-at-requires c κs = search needs
 
 refused-requires-3 : tie.Need-refused-requires-3
 refused-requires-3 c κs = search needs
 
 returns-3 : tie.Need-returns-3
-unfolding snapshotIn readSnapshot viewSnapshotRead viewNamesAt
-returns-3 c = role-other _ _ keepSnapshot _ (c .before .before .before .before .before .before .before .before .role-in .result) (c .before .before .before .before .before .before .before .before .role-in .ensures) _ _ _ (c .before .before .before .before .before .before .if1 .left) _ _ (c .before .before .before .before .before .meta-names .ensures) (not-false _ (c .before .before .before .if2 .left)) (not-true _ (c .before .if3 .taken)) (c .refused3 .ensures)
+unfolding snapshotIn readSnapshot snapshot viewSnapshotRead viewNamesAt viewHeader
+returns-3 c =
+    role-headless _ _ keepSnapshot (c .before .before .before .before .before .before .before .before .before .before .before .before .before .before .before .args .file .now) (c .before .before .before .before .before .before .before .before .before .before .before .before .before .open-envelope .result) (c .before .before .before .before .before .before .before .before .before .before .before .before .before .open-envelope .ensures) _ _ _ (c .before .before .before .before .before .before .before .before .before .before .before .if1 .left) _ _ (c .before .before .before .before .before .before .before .before .meta-names .ensures .0 _ _ (c .before .before .before .before .before .before .before .before .before .find-member .ensures .means))
+    _ _ (c .before .before .before .header-at .ensures (c .before .before .before .before .extent-of .ensures _ (c .before .before .before .before .before .before .before .before .meta-names .ensures .1))) (not-true _ (c .before .if3 .taken)) (c .refused3 .ensures)
+
+refused-requires-4 : tie.Need-refused-requires-4
+refused-requires-4 c κs = search needs
 
 returns-4 : tie.Need-returns-4
-unfolding snapshotIn readSnapshot viewSnapshotRead viewNamesAt viewSnapshot keepSnapshot
-returns-4 c = role-says _ _ keepSnapshot _ (c .before .before .before .before .before .before .before .before .before .before .role-in .result) (c .before .before .before .before .before .before .before .before .before .before .role-in .ensures) _ _ _ (c .before .before .before .before .before .before .before .before .if1 .left) _ _ (c .before .before .before .before .before .before .before .meta-names .ensures) (not-false _ (c .before .before .before .before .before .if2 .left)) (not-false _ (c .before .before .before .if3 .left)) refl (λ spec. refl) refl
+unfolding snapshotIn readSnapshot snapshot viewSnapshotRead viewNamesAt viewHeader
+returns-4 c =
+    role-other _ _ keepSnapshot (c .before .before .before .before .before .before .before .before .before .before .before .before .before .before .before .before .before .args .file .now) (c .before .before .before .before .before .before .before .before .before .before .before .before .before .before .before .open-envelope .result) (c .before .before .before .before .before .before .before .before .before .before .before .before .before .before .before .open-envelope .ensures) _ _ _ (c .before .before .before .before .before .before .before .before .before .before .before .before .before .if1 .left) _ _ (c .before .before .before .before .before .before .before .before .before .before .meta-names .ensures .0 _ _ (c .before .before .before .before .before .before .before .before .before .before .before .find-member .ensures .means))
+    _ _ (c .before .before .before .before .before .header-at .ensures (c .before .before .before .before .before .before .extent-of .ensures _ (c .before .before .before .before .before .before .before .before .before .before .meta-names .ensures .1))) (not-false _ (c .before .before .before .before .before .before .before .before .if2 .left)) (not-false _ (c .before .before .before .if3 .left)) (not-true _ (c .before .if4 .taken)) (c .refused4 .ensures)
+
+returns-5 : tie.Need-returns-5
+unfolding snapshotIn readSnapshot snapshot viewSnapshotRead viewNamesAt viewHeader viewSnapshot keepSnapshot
+returns-5 c =
+    role-says _ _ keepSnapshot (c .before .before .before .before .before .before .before .before .before .before .before .before .before .before .before .before .before .before .before .args .file .now) (c .before .before .before .before .before .before .before .before .before .before .before .before .before .before .before .before .before .open-envelope .result) (c .before .before .before .before .before .before .before .before .before .before .before .before .before .before .before .before .before .open-envelope .ensures) _ _ _ (c .before .before .before .before .before .before .before .before .before .before .before .before .before .before .before .if1 .left) _ _ (c .before .before .before .before .before .before .before .before .before .before .before .before .meta-names .ensures .0 _ _ (c .before .before .before .before .before .before .before .before .before .before .before .before .before .find-member .ensures .means))
+    _ _ (c .before .before .before .before .before .before .before .header-at .ensures (c .before .before .before .before .before .before .before .before .extent-of .ensures _ (c .before .before .before .before .before .before .before .before .before .before .before .before .meta-names .ensures .1))) (not-false _ (c .before .before .before .before .before .before .before .before .before .before .if2 .left)) (not-false _ (c .before .before .before .before .before .if3 .left)) (not-false _ (c .before .before .before .if4 .left)) refl (λ spec. refl) refl
 
 pub read-snapshot-spec : {M : Type 1} → statement M
 read-snapshot-spec =
     tie.close
     (tie.spec
-    slice-aggregate-role-in
-    role-in-requires
+    open-envelope-requires
     refused-requires
     returns
+    slice-aggregate-find-member
+    find-member-requires
     meta-names-requires
     refused-requires-2
     returns-2
+    slice-aggregate-header-at
+    extent-of-requires
+    header-at-requires
     refused-requires-3
     returns-3
-    returns-4)
+    refused-requires-4
+    returns-4
+    returns-5)

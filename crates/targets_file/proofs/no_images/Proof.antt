@@ -1,4 +1,5 @@
--- `no_images` gives nothing.
+-- `no_images` meets its contract.
+use borrow.Author.Needs.{needs}
 use mathlib.Core.Path.{refl}
 use Rattle.json.specs.Fields.{keep}
 use Rattle.targets_file.specs.View.{viewImages}
@@ -7,7 +8,7 @@ use Rattle.targets_file.proofs.no_images.Tie as tie
 
 returns : tie.Need-returns
 unfolding viewImages keep
-returns c = refl
+returns c = (refl, refl)
 
 pub no-images-spec : {M : Type 1} → statement M
 no-images-spec = tie.close (tie.spec returns)

@@ -1,0 +1,69 @@
+-- `keyid_at` meets its contract.
+use borrow.Author.Needs.{needs}
+use mathlib.Core.Path.{_∙_}
+use borrow.Author.Tests.{not-true, not-false}
+use Rattle.lookup.proofs.StandsLaws.{known-none}
+use Rattle.forms.specs.View.{viewIdAt}
+use Rattle.envelope.specs.Header.{viewKeyid}
+use Rattle.envelope.proofs.EntryLaws.{keyid-broken, keyid-is}
+use Rattle.envelope.proofs.keyid_at.Statement.{statement}
+use Rattle.envelope.proofs.keyid_at.Tie as tie
+
+slice-aggregate-find-members : tie.Need-slice-aggregate-find-members
+slice-aggregate-find-members c = search needs
+
+slice-aggregate-find-members-2 : tie.Need-slice-aggregate-find-members-2
+slice-aggregate-find-members-2 c = search needs
+
+slice-aggregate-find-members-3 : tie.Need-slice-aggregate-find-members-3
+slice-aggregate-find-members-3 c = search needs
+
+slice-aggregate-find-members-4 : tie.Need-slice-aggregate-find-members-4
+slice-aggregate-find-members-4 c = search needs
+
+no-extent-requires : tie.Need-no-extent-requires
+no-extent-requires c κs = search needs
+
+find-members-requires : tie.Need-find-members-requires
+find-members-requires c κs = search needs
+
+id-field-requires : tie.Need-id-field-requires
+id-field-requires c κs = search needs
+
+no-keyid-requires : tie.Need-no-keyid-requires
+no-keyid-requires c κs = search needs
+
+returns : tie.Need-returns
+unfolding viewIdAt
+returns c =
+    let m = c .before .before .before .before .find-members .ensures (known-none _ _ _ (c .before .before .before .before .before .no-extent .ensures)) in (
+      λ v h. c .no-keyid .ensures .0 ∙ keyid-broken v _ _ (c .before .before .before .id-field .ensures _ _ (m .first .means) v h) (not-true _ (c .before .if1 .taken)),
+      known-none _ _ _ (c .no-keyid .ensures .1),
+    )
+
+has-sig-field-requires : tie.Need-has-sig-field-requires
+has-sig-field-requires c κs = search needs
+
+returns-2 : tie.Need-returns-2
+unfolding viewIdAt viewKeyid
+returns-2 c =
+    let m = c .before .before .before .before .before .find-members .ensures (known-none _ _ _ (c .before .before .before .before .before .before .no-extent .ensures)) in (
+      λ v h. keyid-is v _ _ (c .before .before .before .before .id-field .ensures _ _ (m .first .means) v h) (not-false _ (c .before .before .if1 .left)) _ (c .before .has-sig-field .ensures _ _ (m .second .means) v h),
+      m .end,
+    )
+
+pub keyid-at-spec : {M : Type 1} → statement M
+keyid-at-spec =
+    tie.close
+    (tie.spec
+    slice-aggregate-find-members
+    slice-aggregate-find-members-2
+    slice-aggregate-find-members-3
+    slice-aggregate-find-members-4
+    no-extent-requires
+    find-members-requires
+    id-field-requires
+    no-keyid-requires
+    returns
+    has-sig-field-requires
+    returns-2)
