@@ -38,11 +38,6 @@ pub record FindsMember (s : Bytes) (p : ℕ) (k : Bytes) (r : Found) : Type 0 wh
   pub means : Finds s p (field k) r
   pub place : (v : Json) → Stands s p v → viewFound r ≡ bind (members v) (placeFrom (p + 1) k)
 
--- of several members of one name the first is meant: a member whose value stands at x, after what was found before it
-unfoldable pub note : Bool → ℕ → Found → Found
-note named x Nothing = cond named (At x) Nothing
-note named x (At y) = At y
-
 -- the same of one that takes something out of it
 abbrev pub Takes : {A : Type 0} → Bytes → ℕ → (Json → Option A) → Option A → Type 0
 Takes s p f o = (v : Json) → Stands s p v → o ≡ f v
@@ -72,6 +67,11 @@ FoundEnd s (At x) end = KnownEnd s x end
 pub record EndsBy (s : Bytes) (p : ℕ) (known r : Found) : Type 0 where
   pub means : KnownEnd s p known → EndsAt s p r
   pub onward : PlaceAfter s p r
+
+-- of several members of one name the first is meant: a member whose value stands at x, after what was found before it
+unfoldable pub note : Bool → ℕ → Found → Found
+note named x Nothing = cond named (At x) Nothing
+note named x (At y) = At y
 
 -- What the search for four members promises: each, and where the object ends, if it is one.
 pub record FindsMembers (s : Bytes) (p : ℕ) (a b c d : Bytes) (r : Members) : Type 0 where
