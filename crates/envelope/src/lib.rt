@@ -57,7 +57,7 @@ fn no_entry() -> EntryAt
 pub fn entry_at(s: &[u8], at: usize) -> EntryAt
     ensures { λ r. ⌜ Takes (now (s .entry)) at entry (viewEntry r) × KnownEnd (now (s .entry)) at (r .end) ⌝ }
 {
-    let m = lookup::find_members(s, at, b"keyid", b"sig", b"", b"", lookup::no_extent());
+    let m = lookup::find_members(s, at, b"keyid", b"sig", b"", b"");
     let first = m.first;
     let second = m.second;
     let end = m.end;
@@ -97,7 +97,7 @@ fn no_keyid() -> KeyidAt
 fn keyid_at(s: &[u8], at: usize) -> KeyidAt
     ensures { λ r. ⌜ Takes (now (s .entry)) at keyidOf (viewKeyid r) × KnownEnd (now (s .entry)) at (r .end) ⌝ }
 {
-    let m = lookup::find_members(s, at, b"keyid", b"sig", b"", b"", lookup::no_extent());
+    let m = lookup::find_members(s, at, b"keyid", b"sig", b"", b"");
     let first = m.first;
     let second = m.second;
     let end = m.end;
@@ -270,7 +270,7 @@ fn no_header() -> HeaderAt
 pub fn header_at(s: &[u8], at: usize, kind: &[u8], body: Extent) -> HeaderAt
     ensures { λ r. ⌜ (KnownEnd (now (s .entry)) (body .at) (body .end) → Takes (now (s .entry)) at (header (now (kind .entry))) (viewHeader r)) ⌝ }
 {
-    let m = lookup::find_members(
+    let m = lookup::find_members_by(
         s,
         at,
         b"_type",

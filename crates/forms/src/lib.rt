@@ -423,15 +423,7 @@ pub fn no_listed() -> ListedAt
 pub fn listed_at(s: &[u8], at: usize) -> ListedAt
     ensures { λ r. ⌜ Takes (now (s .entry)) at listedForm (viewListedAt r) × KnownEnd (now (s .entry)) at (r .end) ⌝ }
 {
-    let m = lookup::find_members(
-        s,
-        at,
-        b"version",
-        b"length",
-        b"hashes",
-        b"",
-        lookup::no_extent(),
-    );
+    let m = lookup::find_members(s, at, b"version", b"length", b"hashes", b"");
     let first = m.first;
     let second = m.second;
     let third = m.third;

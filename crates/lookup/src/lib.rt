@@ -293,8 +293,15 @@ pub fn noted(s: &[u8], i: usize, value: usize, name: &[u8], found: Found) -> Fou
     }
 }
 
-// The members of those names in the object at `at`. One walk for all of them, and none over the value whose end is known.
-pub fn find_members(
+// The members of those names in the object at `at`, in one walk.
+pub fn find_members(s: &[u8], at: usize, a: &[u8], b: &[u8], c: &[u8], d: &[u8]) -> Members
+    ensures { λ r. ⌜ FindsMembers (now (s .entry)) at (now (a .entry)) (now (b .entry)) (now (c .entry)) (now (d .entry)) r ⌝ }
+{
+    find_members_by(s, at, a, b, c, d, no_extent())
+}
+
+// The same, without a walk over the value whose end is known.
+pub fn find_members_by(
     s: &[u8],
     at: usize,
     a: &[u8],

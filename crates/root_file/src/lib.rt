@@ -80,15 +80,7 @@ pub fn key_at(s: &[u8], name: usize, value: usize) -> KeyAt
     if !id.ok {
         return no_key();
     }
-    let m = lookup::find_members(
-        s,
-        value,
-        b"keytype",
-        b"scheme",
-        b"keyval",
-        b"",
-        lookup::no_extent(),
-    );
+    let m = lookup::find_members(s, value, b"keytype", b"scheme", b"keyval", b"");
     let first = m.first;
     let second = m.second;
     let third = m.third;
@@ -403,15 +395,7 @@ fn no_roles() -> RolesAt
 fn roles_at(s: &[u8], at: usize, table: KeyTable) -> RolesAt
     ensures { λ r. ⌜ Takes (now (s .entry)) at (rolesKept (viewTable table)) (viewRolesAt table r) × KnownEnd (now (s .entry)) at (r .end) ⌝ }
 {
-    let m = lookup::find_members(
-        s,
-        at,
-        b"root",
-        b"timestamp",
-        b"snapshot",
-        b"targets",
-        lookup::no_extent(),
-    );
+    let m = lookup::find_members(s, at, b"root", b"timestamp", b"snapshot", b"targets");
     let first = m.first;
     let second = m.second;
     let third = m.third;

@@ -51,7 +51,7 @@ fn image_at(s: &[u8], i: usize, at: usize) -> ImageAt
     if records::MAX_PATH < name_length {
         return no_image();
     }
-    let m = lookup::find_members(s, at, b"length", b"hashes", b"", b"", lookup::no_extent());
+    let m = lookup::find_members(s, at, b"length", b"hashes", b"", b"");
     let first = m.first;
     let second = m.second;
     let end = m.end;

@@ -21,9 +21,6 @@ slice-aggregate-find-members-3 c = search needs
 slice-aggregate-find-members-4 : tie.Need-slice-aggregate-find-members-4
 slice-aggregate-find-members-4 c = search needs
 
-no-extent-requires : tie.Need-no-extent-requires
-no-extent-requires c κs = search needs
-
 find-members-requires : tie.Need-find-members-requires
 find-members-requires c κs = search needs
 
@@ -36,7 +33,7 @@ no-entry-requires c κs = search needs
 returns : tie.Need-returns
 unfolding viewIdAt
 returns c =
-    let m = c .before .before .before .before .find-members .ensures (known-none _ _ _ (c .before .before .before .before .before .no-extent .ensures)) in
+    let m = c .before .before .before .before .find-members .ensures in
     (λ v h. c .no-entry .ensures .0 ∙ no-keyid v _ _ (c .before .before .before .id-field .ensures _ _ (m .first .means) v h) (not-true _ (c .before .if1 .taken)), known-none _ _ _ (c .no-entry .ensures .1))
 
 sig-field-requires : tie.Need-sig-field-requires
@@ -45,7 +42,7 @@ sig-field-requires c κs = search needs
 returns-2 : tie.Need-returns-2
 unfolding viewIdAt viewSig viewEntry
 returns-2 c =
-    let m = c .before .before .before .before .before .before .find-members .ensures (known-none _ _ _ (c .before .before .before .before .before .before .before .no-extent .ensures)) in (
+    let m = c .before .before .before .before .before .before .find-members .ensures in (
       λ v h. entry-is v _ _ (c .before .before .before .before .before .id-field .ensures _ _ (m .first .means) v h) (not-false _ (c .before .before .before .if1 .left)) _ _ (c .before .before .sig-field .ensures _ _ (m .second .means) v h),
       m .end,
     )
@@ -58,7 +55,6 @@ entry-at-spec =
     slice-aggregate-find-members-2
     slice-aggregate-find-members-3
     slice-aggregate-find-members-4
-    no-extent-requires
     find-members-requires
     id-field-requires
     no-entry-requires

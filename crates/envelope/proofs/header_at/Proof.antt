@@ -10,20 +10,20 @@ use Rattle.envelope.proofs.HeaderLaws.{no-type, no-spec, no-version, no
 use Rattle.envelope.proofs.header_at.Statement.{statement}
 use Rattle.envelope.proofs.header_at.Tie as tie
 
-slice-aggregate-find-members : tie.Need-slice-aggregate-find-members
-slice-aggregate-find-members c = search needs
+slice-aggregate-find-members-by : tie.Need-slice-aggregate-find-members-by
+slice-aggregate-find-members-by c = search needs
 
-slice-aggregate-find-members-2 : tie.Need-slice-aggregate-find-members-2
-slice-aggregate-find-members-2 c = search needs
+slice-aggregate-find-members-by-2 : tie.Need-slice-aggregate-find-members-by-2
+slice-aggregate-find-members-by-2 c = search needs
 
-slice-aggregate-find-members-3 : tie.Need-slice-aggregate-find-members-3
-slice-aggregate-find-members-3 c = search needs
+slice-aggregate-find-members-by-3 : tie.Need-slice-aggregate-find-members-by-3
+slice-aggregate-find-members-by-3 c = search needs
 
-slice-aggregate-find-members-4 : tie.Need-slice-aggregate-find-members-4
-slice-aggregate-find-members-4 c = search needs
+slice-aggregate-find-members-by-4 : tie.Need-slice-aggregate-find-members-by-4
+slice-aggregate-find-members-by-4 c = search needs
 
-find-members-requires : tie.Need-find-members-requires
-find-members-requires c κs = search needs
+find-members-by-requires : tie.Need-find-members-by-requires
+find-members-by-requires c κs = search needs
 
 word-field-requires : tie.Need-word-field-requires
 word-field-requires c κs = search needs
@@ -34,7 +34,7 @@ no-header-requires c κs = search needs
 returns : tie.Need-returns
 returns c =
     λ k v h.
-    let m = c .before .before .before .find-members .ensures k in
+    let m = c .before .before .before .find-members-by .ensures k in
     c .no-header .ensures ∙ no-type _ v _ (c .before .before .word-field .ensures _ _ (m .first .means) v h) (not-true _ (c .before .if1 .taken))
 
 spec-field-requires : tie.Need-spec-field-requires
@@ -47,7 +47,7 @@ returns-2 : tie.Need-returns-2
 unfolding viewSpec
 returns-2 c =
     λ k v h.
-    let m = c .before .before .before .before .before .before .find-members .ensures k in
+    let m = c .before .before .before .before .before .before .find-members-by .ensures k in
     c .no-header2 .ensures ∙ no-spec _ v _ (c .before .before .before .before .before .word-field .ensures _ _ (m .first .means) v h) (not-false _ (c .before .before .before .before .if1 .left)) _ _ (c .before .before .before .spec-field .ensures _ _ (m .second .means) v h) (not-true _ (c .before .if2 .taken))
 
 version-field-requires : tie.Need-version-field-requires
@@ -63,7 +63,7 @@ returns-3 : tie.Need-returns-3
 unfolding viewSpec version
 returns-3 c =
     λ k v h.
-    let m = c .before .before .before .before .before .before .before .before .before .find-members .ensures k in
+    let m = c .before .before .before .before .before .before .before .before .before .find-members-by .ensures k in
     c .no-header3 .ensures
     ∙ no-version _ v _ (c .before .before .before .before .before .before .before .before .word-field .ensures _ _ (m .first .means) v h) (not-false _ (c .before .before .before .before .before .before .before .if1 .left)) _ _ (c .before .before .before .before .before .before .spec-field .ensures _ _ (m .second .means) v h) (not-false _ (c .before .before .before .before .if2 .left))
     (ap viewNumber (sym (c .before .enum-told .given .1)) ∙ c .before .before .before .version-field .ensures _ _ (m .third .means) v h)
@@ -84,7 +84,7 @@ returns-4 : tie.Need-returns-4
 unfolding viewSpec version
 returns-4 c =
     λ k v h.
-    let m = c .before .before .before .before .before .before .before .before .before .before .before .before .before .find-members .ensures k in
+    let m = c .before .before .before .before .before .before .before .before .before .before .before .before .before .find-members-by .ensures k in
     c .no-header4 .ensures
     ∙ no-date _ v _ (c .before .before .before .before .before .before .before .before .before .before .before .before .word-field .ensures _ _ (m .first .means) v h) (not-false _ (c .before .before .before .before .before .before .before .before .before .before .before .if1 .left)) _ _ (c .before .before .before .before .before .before .before .before .before .before .spec-field .ensures _ _ (m .second .means) v h) (not-false _ (c .before .before .before .before .before .before .before .before .if2 .left))
     _ (ap viewNumber (sym (c .before .before .before .before .before .version .given .1)) ∙ c .before .before .before .before .before .before .before .version-field .ensures _ _ (m .third .means) v h)
@@ -97,7 +97,7 @@ returns-5 : tie.Need-returns-5
 unfolding viewSpec version viewHeader
 returns-5 c =
     λ k v h.
-    let m = c .before .before .before .before .before .before .before .before .before .before .before .before .before .find-members .ensures k in
+    let m = c .before .before .before .before .before .before .before .before .before .before .before .before .before .find-members-by .ensures k in
     header-is _ v _ (c .before .before .before .before .before .before .before .before .before .before .before .before .word-field .ensures _ _ (m .first .means) v h) (not-false _ (c .before .before .before .before .before .before .before .before .before .before .before .if1 .left)) _ _ (c .before .before .before .before .before .before .before .before .before .before .spec-field .ensures _ _ (m .second .means) v h) (not-false _ (c .before .before .before .before .before .before .before .before .if2 .left))
     _ (ap viewNumber (sym (c .before .before .before .before .before .version .given .1)) ∙ c .before .before .before .before .before .before .before .version-field .ensures _ _ (m .third .means) v h)
     _ (ap viewDate (sym (c .before .expires .given .1)) ∙ c .before .before .before .date-field .ensures _ _ (m .fourth .means) v h)
@@ -106,11 +106,11 @@ pub header-at-spec : {M : Type 1} → statement M
 header-at-spec =
     tie.close
     (tie.spec
-    slice-aggregate-find-members
-    slice-aggregate-find-members-2
-    slice-aggregate-find-members-3
-    slice-aggregate-find-members-4
-    find-members-requires
+    slice-aggregate-find-members-by
+    slice-aggregate-find-members-by-2
+    slice-aggregate-find-members-by-3
+    slice-aggregate-find-members-by-4
+    find-members-by-requires
     word-field-requires
     no-header-requires
     returns

@@ -21,9 +21,6 @@ slice-aggregate-find-members-3 c = search needs
 slice-aggregate-find-members-4 : tie.Need-slice-aggregate-find-members-4
 slice-aggregate-find-members-4 c = search needs
 
-no-extent-requires : tie.Need-no-extent-requires
-no-extent-requires c κs = search needs
-
 find-members-requires : tie.Need-find-members-requires
 find-members-requires c κs = search needs
 
@@ -36,7 +33,7 @@ no-keyid-requires c κs = search needs
 returns : tie.Need-returns
 unfolding viewIdAt
 returns c =
-    let m = c .before .before .before .before .find-members .ensures (known-none _ _ _ (c .before .before .before .before .before .no-extent .ensures)) in (
+    let m = c .before .before .before .before .find-members .ensures in (
       λ v h. c .no-keyid .ensures .0 ∙ keyid-broken v _ _ (c .before .before .before .id-field .ensures _ _ (m .first .means) v h) (not-true _ (c .before .if1 .taken)),
       known-none _ _ _ (c .no-keyid .ensures .1),
     )
@@ -47,7 +44,7 @@ has-sig-field-requires c κs = search needs
 returns-2 : tie.Need-returns-2
 unfolding viewIdAt viewKeyid
 returns-2 c =
-    let m = c .before .before .before .before .before .find-members .ensures (known-none _ _ _ (c .before .before .before .before .before .before .no-extent .ensures)) in (
+    let m = c .before .before .before .before .before .find-members .ensures in (
       λ v h. keyid-is v _ _ (c .before .before .before .before .id-field .ensures _ _ (m .first .means) v h) (not-false _ (c .before .before .if1 .left)) _ (c .before .has-sig-field .ensures _ _ (m .second .means) v h),
       m .end,
     )
@@ -60,7 +57,6 @@ keyid-at-spec =
     slice-aggregate-find-members-2
     slice-aggregate-find-members-3
     slice-aggregate-find-members-4
-    no-extent-requires
     find-members-requires
     id-field-requires
     no-keyid-requires

@@ -23,9 +23,6 @@ slice-aggregate-find-members-3 c = search needs
 slice-aggregate-find-members-4 : tie.Need-slice-aggregate-find-members-4
 slice-aggregate-find-members-4 c = search needs
 
-no-extent-requires : tie.Need-no-extent-requires
-no-extent-requires c κs = search needs
-
 find-members-requires : tie.Need-find-members-requires
 find-members-requires c κs = search needs
 
@@ -41,7 +38,7 @@ no-listed-requires c κs = search needs
 returns : tie.Need-returns
 unfolding version
 returns c =
-    let m = c .before .before .before .before .find-members .ensures (known-none _ _ _ (c .before .before .before .before .before .no-extent .ensures)) in (
+    let m = c .before .before .before .before .find-members .ensures in (
       λ v h. c .no-listed .ensures .0 ∙ no-version v (ap viewNumber (sym (c .before .enum-told .given .1)) ∙ c .before .before .before .version-field .ensures _ _ (m .first .means) v h),
       known-none _ _ _ (c .no-listed .ensures .1),
     )
@@ -58,7 +55,7 @@ no-listed-requires-2 c κs = search needs
 returns-2 : tie.Need-returns-2
 unfolding version viewMayNumber
 returns-2 c =
-    let m = c .before .before .before .before .before .before .before .before .find-members .ensures (known-none _ _ _ (c .before .before .before .before .before .before .before .before .before .no-extent .ensures)) in (
+    let m = c .before .before .before .before .before .before .before .before .find-members .ensures in (
       λ v h.
           c .no-listed2 .ensures .0
           ∙ no-length v _ (ap viewNumber (sym (c .before .before .before .before .before .version .given .1)) ∙ c .before .before .before .before .before .before .before .version-field .ensures _ _ (m .first .means) v h)
@@ -72,7 +69,7 @@ digest-may-requires c κs = search needs
 returns-3 : tie.Need-returns-3
 unfolding version viewMayNumber viewMayId viewListedAt viewListed
 returns-3 c =
-    let m = c .before .before .before .before .before .before .before .before .before .find-members .ensures (known-none _ _ _ (c .before .before .before .before .before .before .before .before .before .before .no-extent .ensures)) in (
+    let m = c .before .before .before .before .before .before .before .before .before .find-members .ensures in (
       λ v h.
           listed-is v _ (ap viewNumber (sym (c .before .before .before .before .before .before .version .given .1)) ∙ c .before .before .before .before .before .before .before .before .version-field .ensures _ _ (m .first .means) v h)
           _ _ (c .before .before .before .before .number-may .ensures _ _ (m .second .means) v h) (not-false _ (c .before .before .if1 .left)) _ _ (c .before .digest-may .ensures _ _ (m .third .means) v h),
@@ -87,7 +84,6 @@ listed-at-spec =
     slice-aggregate-find-members-2
     slice-aggregate-find-members-3
     slice-aggregate-find-members-4
-    no-extent-requires
     find-members-requires
     version-field-requires
     enum-told

@@ -32,9 +32,6 @@ slice-aggregate-find-members-3 c = search needs
 slice-aggregate-find-members-4 : tie.Need-slice-aggregate-find-members-4
 slice-aggregate-find-members-4 c = search needs
 
-no-extent-requires : tie.Need-no-extent-requires
-no-extent-requires c κs = search needs
-
 find-members-requires : tie.Need-find-members-requires
 find-members-requires c κs = search needs
 
@@ -50,8 +47,8 @@ no-key-requires-2 c κs = search needs
 returns-2 : tie.Need-returns-2
 unfolding viewKeyAt viewKey viewIdAt
 returns-2 c =
-    let m = c .before .before .before .before .find-members .ensures (known-none _ _ _ (c .before .before .before .before .before .no-extent .ensures)) in (
-      λ v h. nothing _ (c .no-key2 .ensures .0) (no-keytype _ v _ _ (c .before .before .before .before .before .before .before .before .before .before .before .before .id-in .ensures) (not-false _ (c .before .before .before .before .before .before .before .before .before .before .if1 .left)) _ (c .before .before .word-field .ensures _ _ (m .first .means) v h) (not-true _ (c .before .if2 .taken))),
+    let m = c .before .before .before .before .find-members .ensures in (
+      λ v h. nothing _ (c .no-key2 .ensures .0) (no-keytype _ v _ _ (c .before .before .before .before .before .before .before .before .before .before .before .id-in .ensures) (not-false _ (c .before .before .before .before .before .before .before .before .before .if1 .left)) _ (c .before .before .word-field .ensures _ _ (m .first .means) v h) (not-true _ (c .before .if2 .taken))),
       known-none _ _ _ (c .no-key2 .ensures .1),
     )
 
@@ -67,10 +64,10 @@ no-key-requires-3 c κs = search needs
 returns-3 : tie.Need-returns-3
 unfolding viewKeyAt viewKey viewIdAt
 returns-3 c =
-    let m = c .before .before .before .before .before .before .before .find-members .ensures (known-none _ _ _ (c .before .before .before .before .before .before .before .before .no-extent .ensures)) in (
+    let m = c .before .before .before .before .before .before .before .find-members .ensures in (
       λ v h.
           nothing _ (c .no-key3 .ensures .0)
-          (no-scheme _ v _ _ (c .before .before .before .before .before .before .before .before .before .before .before .before .before .before .before .id-in .ensures) (not-false _ (c .before .before .before .before .before .before .before .before .before .before .before .before .before .if1 .left)) _ (c .before .before .before .before .before .word-field .ensures _ _ (m .first .means) v h) (not-false _ (c .before .before .before .before .if2 .left))
+          (no-scheme _ v _ _ (c .before .before .before .before .before .before .before .before .before .before .before .before .before .before .id-in .ensures) (not-false _ (c .before .before .before .before .before .before .before .before .before .before .before .before .if1 .left)) _ (c .before .before .before .before .before .word-field .ensures _ _ (m .first .means) v h) (not-false _ (c .before .before .before .before .if2 .left))
           _ (c .before .before .word-field2 .ensures _ _ (m .second .means) v h) (not-true _ (c .before .if3 .taken))),
       known-none _ _ _ (c .no-key3 .ensures .1),
     )
@@ -81,9 +78,9 @@ public-field-requires c κs = search needs
 returns-4 : tie.Need-returns-4
 unfolding viewKeyAt viewKey viewIdAt
 returns-4 c =
-    let m = c .before .before .before .before .before .before .before .before .before .find-members .ensures (known-none _ _ _ (c .before .before .before .before .before .before .before .before .before .before .no-extent .ensures)) in (
+    let m = c .before .before .before .before .before .before .before .before .before .find-members .ensures in (
       λ v h.
-          key-is _ v _ _ (c .before .before .before .before .before .before .before .before .before .before .before .before .before .before .before .before .before .id-in .ensures) (not-false _ (c .before .before .before .before .before .before .before .before .before .before .before .before .before .before .before .if1 .left)) _ (c .before .before .before .before .before .before .before .word-field .ensures _ _ (m .first .means) v h) (not-false _ (c .before .before .before .before .before .before .if2 .left))
+          key-is _ v _ _ (c .before .before .before .before .before .before .before .before .before .before .before .before .before .before .before .before .id-in .ensures) (not-false _ (c .before .before .before .before .before .before .before .before .before .before .before .before .before .before .if1 .left)) _ (c .before .before .before .before .before .before .before .word-field .ensures _ _ (m .first .means) v h) (not-false _ (c .before .before .before .before .before .before .if2 .left))
           _ (c .before .before .before .before .word-field2 .ensures _ _ (m .second .means) v h) (not-false _ (c .before .before .before .if3 .left)) _ _ (c .before .before .public-field .ensures _ _ (m .third .means) v h),
       m .end,
     )
@@ -99,7 +96,6 @@ key-at-spec =
     slice-aggregate-find-members-2
     slice-aggregate-find-members-3
     slice-aggregate-find-members-4
-    no-extent-requires
     find-members-requires
     slice-aggregate-word-field
     word-field-requires

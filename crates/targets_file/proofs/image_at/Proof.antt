@@ -43,9 +43,6 @@ slice-aggregate-find-members-3 c = search needs
 slice-aggregate-find-members-4 : tie.Need-slice-aggregate-find-members-4
 slice-aggregate-find-members-4 c = search needs
 
-no-extent-requires : tie.Need-no-extent-requires
-no-extent-requires c κs = search needs
-
 find-members-requires : tie.Need-find-members-requires
 find-members-requires c κs = search needs
 
@@ -60,10 +57,10 @@ no-image-requires-3 c κs = search needs
 
 returns-3 : tie.Need-returns-3
 returns-3 c =
-    let e = c .before .before .before .before .before .before .before .before .before .before .before .before .text-len .ensures in
-    let lo = c .before .before .before .before .before .before .before .before .before .before .before .if1 .left in
-    let hi = c .before .before .before .before .before .before .before .before .before .before .if2 .left in
-    let m = c .before .before .before .before .find-members .ensures (known-none _ _ _ (c .before .before .before .before .before .no-extent .ensures)) in (
+    let e = c .before .before .before .before .before .before .before .before .before .before .before .text-len .ensures in
+    let lo = c .before .before .before .before .before .before .before .before .before .before .if1 .left in
+    let hi = c .before .before .before .before .before .before .before .before .before .if2 .left in
+    let m = c .before .before .before .before .find-members .ensures in (
       λ v g.
           c .no-image3 .ensures .0 _
           ∙ no-length _ v (omega arith) (omega arith) (ap viewNumber (sym (c .before .enum-told .given .1)) ∙ c .before .before .before .number-field .ensures _ _ (m .first .means) v g),
@@ -79,10 +76,10 @@ digest-field-requires c κs = search needs
 returns-4 : tie.Need-returns-4
 unfolding viewImage viewIdAt
 returns-4 c =
-    let e = c .before .before .before .before .before .before .before .before .before .before .before .before .before .before .text-len .ensures in
-    let lo = c .before .before .before .before .before .before .before .before .before .before .before .before .before .if1 .left in
-    let hi = c .before .before .before .before .before .before .before .before .before .before .before .before .if2 .left in
-    let m = c .before .before .before .before .before .before .find-members .ensures (known-none _ _ _ (c .before .before .before .before .before .before .before .no-extent .ensures)) in (
+    let e = c .before .before .before .before .before .before .before .before .before .before .before .before .before .text-len .ensures in
+    let lo = c .before .before .before .before .before .before .before .before .before .before .before .before .if1 .left in
+    let hi = c .before .before .before .before .before .before .before .before .before .before .before .if2 .left in
+    let m = c .before .before .before .before .before .before .find-members .ensures in (
       λ v g.
           image-is _ v (omega arith) (omega arith) _ (ap viewNumber (sym (c .before .before .before .length .given .1)) ∙ c .before .before .before .before .before .number-field .ensures _ _ (m .first .means) v g)
           _ _ (c .before .digest-field .ensures _ _ (m .second .means) v g),
@@ -102,7 +99,6 @@ image-at-spec =
     slice-aggregate-find-members-2
     slice-aggregate-find-members-3
     slice-aggregate-find-members-4
-    no-extent-requires
     find-members-requires
     number-field-requires
     enum-told
