@@ -5,7 +5,7 @@ use std::collections::BTreeMap;
 use side::random::Random;
 use side::shelf::files::{Header, LONGEST, Listed, Role, Root, Snapshot, Targets, Timestamp, file, padded};
 use side::shelf::sha256::digest;
-use side::shelf::tree::{Tree, text};
+use side::shelf::tree::{Tree, object, text};
 
 use crate::calls::{Bytes, Call};
 
@@ -28,6 +28,8 @@ pub struct Size {
     pub names: usize,
     /// Bytes of the targets file.
     pub targets: usize,
+    /// Whether each image has a second hash and a member that no form names.
+    pub other_members: bool,
     /// Bytes of the timestamp, if it is padded by an unknown member.
     pub timestamp: Option<usize>,
 }
@@ -39,6 +41,7 @@ pub const MIDDLE: Size = Size {
     signers: 2,
     names: 4,
     targets: 8_192,
+    other_members: false,
     timestamp: None,
 };
 
@@ -49,6 +52,7 @@ pub const LARGE: Size = Size {
     signers: KEYS_OF_A_SHELF,
     names: 32,
     targets: LONGEST,
+    other_members: false,
     timestamp: None,
 };
 
@@ -198,7 +202,18 @@ impl Maker<'_> {
             header: self.header(),
             targets: paths.map(listed).collect(),
         };
-        self.signed(targets.signed())
+        let mut signed = targets.signed();
+        if self.size.other_members {
+            for (path, image) in signed.member(&["targets"]).members() {
+                let sha512: String = digest(path.as_bytes())
+                    .iter()
+                    .map(|byte| format!("{byte:02x}").repeat(2))
+                    .collect();
+                image.member(&["hashes"]).insert("sha512", text(sha512));
+                image.insert("custom", object([("hardware", text("gate-controller"))]));
+            }
+        }
+        self.signed(signed)
     }
 
     fn path(&self, number: usize) -> String {
@@ -291,7 +306,7 @@ fn array_of(shelf: usize, element: impl Fn(&mut Random) -> Tree) -> Call {
 
 #[cfg(test)]
 mod tests {
-    use super::{Call, LARGE, LONGEST, Release, dense_escapes, multi_byte, plain_strings, small_values};
+    use super::{Call, LARGE, LONGEST, Release, Size, dense_escapes, multi_byte, plain_strings, small_values};
     use paper::forms;
     use std::collections::BTreeSet;
 
@@ -322,6 +337,26 @@ mod tests {
         assert_eq!(release.targets.len(), LONGEST);
         let targets = forms::targets(&release.targets).unwrap().says.targets;
         assert!(targets.keys().eq(&release.paths) && targets.len() > 180);
+    }
+
+    #[test]
+    fn other_members_are_in_every_image() {
+        let size = Size {
+            other_members: true,
+            ..LARGE
+        };
+        let release = Release::new(3, 1, &size);
+        let count = |word: &[u8]| {
+            release
+                .targets
+                .windows(word.len())
+                .filter(|window| *window == word)
+                .count()
+        };
+        let targets = forms::targets(&release.targets).unwrap().says.targets;
+        assert!(targets.keys().eq(&release.paths) && targets.len() > 80);
+        assert_eq!(count(br#""custom":{"#), targets.len());
+        assert_eq!(count(br#""sha512":""#), targets.len());
     }
 
     #[test]

@@ -89,13 +89,19 @@ fn forms() -> Vec<Work> {
         timestamp: Some(LONGEST),
         ..LARGE
     };
+    let others = Size {
+        other_members: true,
+        ..LARGE
+    };
     vec![
         step("root: 16 keys, 4 roles of 16, 16 entries", &LARGE, 1),
         step("timestamp: plain, 2 entries", &MIDDLE, 2),
         step("timestamp: 16 entries, padded", &padded, 2),
         step("snapshot: 32 names, 16 entries", &LARGE, 3),
         step("targets: 16 entries", &LARGE, 4),
+        step("targets: images with other members", &others, 4),
         finds("find: one path", &LARGE, 1),
+        finds("find: images with other members", &others, 1),
     ]
 }
 

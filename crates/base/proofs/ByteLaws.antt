@@ -1,10 +1,12 @@
 -- Equality of byte strings: as a test, and one turn of a loop that compares.
 use mathlib.Core.Path.{_≡_, refl, sym, ap, _∙_}
-use mathlib.Core.List.{[], _∷_}
-use mathlib.Core.Bool.{true, false, and-false}
-use Prim.Native.Nat.{ℕ, suc, _≤_, _<_, _+_}
+use mathlib.Core.List.{[], _∷_, _++_}
+use mathlib.Core.Bool.{Bool, true, false, _&&_, and-true, and-false, and-assoc}
+use Prim.Native.Nat.{ℕ, suc, _≤_, _<_, _+_, _-_}
+use native.Mathlib.Omega.{arith}
 use lib.Dec.{eqb, leb}
-use lib.ListN.{length, drop, getD}
+use lib.ListN.{length, take, drop, getD, length-take, length-drop, take-append-drop}
+use lib.Seq.{drop-drop}
 use borrow.Author.Tests.{eq-eqb, ne-eqb, eqb-true, le-leb, lt-leb, leb-true}
 use Rattle.base.specs.Bytes.{Bytes, same, isDigit}
 use Rattle.base.proofs.TestLaws.{never, both, same-test}
@@ -59,6 +61,52 @@ module _ (a b : Bytes) (i : ℕ) where
 
   pub same-end : length a ≤ i → length b ≤ i → same (drop i a) (drop i b) ≡ true
   same-end p q = rw (at-end a i p, at-end b i q) same-none
+
+-- ## One turn of a loop that compares w with what stands at `at`; `all` of the bytes before k are the same or not
+
+module _ (s w : Bytes) (at k : ℕ) (all : Bool) where
+  pub stood-next : at + length w ≤ length s → k < length w
+      → all && same (take (length w - k) (drop (at + k) s)) (drop k w) ≡ (all && eqb (getD s (at + k) 0) (getD w k 0)) && same (take (length w - (k + 1)) (drop (at + (k + 1)) s)) (drop (k + 1) w)
+  unfolding same
+  stood-next h l =
+      let n : length w - k ≡ suc (length w - (k + 1)) = omega arith in
+      let m : at + k + 1 ≡ at + (k + 1) = omega arith in
+      rw (n, at-cons s (at + k) (omega arith), at-cons w k l, m)
+      (sym (and-assoc all (eqb (getD s (at + k) 0) (getD w k 0)) (same (take (length w - (k + 1)) (drop (at + (k + 1)) s)) (drop (k + 1) w))))
+
+  pub stood-end : length w ≤ k → all && same (take (length w - k) (drop (at + k) s)) (drop k w) ≡ all
+  unfolding same
+  stood-end h =
+      let n : length w - k ≡ 0 = omega arith in
+      rw (n, at-end w k h) (and-true all)
+
+pub stood-first : (s w : Bytes) (at : ℕ) → same (take (length w) (drop at s)) w ≡ true && same (take (length w - 0) (drop (at + 0) s)) (drop 0 w)
+stood-first s w at =
+    let n : length w - 0 ≡ length w = omega arith in
+    let m : at + 0 ≡ at = omega arith in
+    rw (n, m) refl
+
+-- fewer bytes are left
+pub stood-short : (s w : Bytes) (at : ℕ) → length s - at < length w → same (take (length w) (drop at s)) w ≡ false
+stood-short s w at h = same-lengths _ _ (λ e. let l = length-drop at s in let k = length-take (length w) (drop at s) in omega arith)
+
+-- none are left
+pub stood-none : (s w : Bytes) (at : ℕ) → length s ≤ at → same (take (length w) (drop at s)) w ≡ eqb (length w) 0
+unfolding same
+stood-none s [] at h = refl
+stood-none s (x ∷ w) at h = stood-short s (x ∷ w) at (omega arith) ∙ sym (ne-eqb (suc (length w)) 0 (λ e. omega arith))
+
+-- all of them are the same: w, and what follows it
+pub stood-text : (s w : Bytes) (at : ℕ) → same (take (length w) (drop at s)) w ≡ true → drop at s ≡ w ++ drop (at + length w) s
+stood-text s w at e =
+    sym (take-append-drop (length w) (drop at s)) ∙ ap (λ (x : Bytes). x ++ drop (length w) (drop at s)) (same-true _ _ e) ∙ ap (λ (x : Bytes). w ++ x) (drop-drop (length w) at s)
+
+pub stood-within : (s w : Bytes) (at : ℕ) → same (take (length w) (drop at s)) w ≡ true → 0 < length w → at + length w ≤ length s
+stood-within s w at e n =
+    let l : length (take (length w) (drop at s)) ≡ length w = ap length (same-true _ _ e) in
+    let d = length-drop at s in
+    let k = length-take (length w) (drop at s) in
+    omega arith
 
 -- ## Digits
 

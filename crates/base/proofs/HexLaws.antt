@@ -61,6 +61,13 @@ module _ (b : ℕ) (h : digitOf b < 16) where
       go true e = let z = above b (ltb-true 102 b e) in absurd (omega arith)
       go false e = letter b l (ltb-false 102 b e)
 
+  pub hex-range : (48 ≤ b) × (b ≤ 102)
+  hex-range = (from-zero, go (ltb 102 b) refl)
+    where
+      go : (x : Bool) → ltb 102 b ≡ x → b ≤ 102
+      go true e = let z = above b (ltb-true 102 b e) in absurd (omega arith)
+      go false e = ltb-false 102 b e
+
 -- ## Digits at places
 
 -- what was looked at before i is digits or not, and at i there is the digit d

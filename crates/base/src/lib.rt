@@ -1,7 +1,7 @@
 // Byte strings: equality, windows by index, lower-case hex.
 ghost use mathlib.Core.Path.{_≡_};
 ghost use Prim.Native.Nat.{_+_, _*_, _≤_, _<_};
-ghost use lib.ListN.{length, replicate};
+ghost use lib.ListN.{length, take, drop, replicate};
 ghost use Rattle.base.specs.Bytes.{same as sameOf};
 ghost use Rattle.base.specs.Window.{byteAt, window};
 ghost use Rattle.base.specs.Hex.{digitOf, allHex, isHex, Undone};
@@ -32,6 +32,25 @@ pub fn same(a: &[u8], b: &[u8]) -> bool
         i += 1;
     }
     true
+}
+
+// Whether the bytes w stand at `at`. All are looked at, so that the compiler can take many at once.
+pub fn has_at(s: &[u8], at: usize, w: &[u8]) -> bool
+    ensures { λ r. ⌜ r ≡ sameOf (take (length (now (w .entry))) (drop at (now (s .entry)))) (now (w .entry)) ⌝ }
+{
+    if s.len() <= at {
+        return w.len() == 0;
+    }
+    if s.len() - at < w.len() {
+        return false;
+    }
+    let mut all = true;
+    let mut k: usize = 0;
+    while k < w.len() {
+        all = all & (s[at + k] == w[k]);
+        k += 1;
+    }
+    all
 }
 
 // The value of a lower-case hex digit, or 16.

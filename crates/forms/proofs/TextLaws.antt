@@ -5,7 +5,7 @@ use mathlib.Core.Option.{none, some}
 use mathlib.Core.Bool.{Bool, true, false, cond}
 use Prim.Native.Nat.{ℕ, zero, suc, _+_, _-_, _*_, _<_}
 use native.Mathlib.Omega.{arith}
-use lib.Dec.{eqb, ltb}
+use lib.Dec.{ltb}
 use lib.ListN.{length, take, drop, take-append-drop}
 use lib.Seq.{take-all, drop-drop}
 use borrow.Author.Tests.{eq-eqb, ne-eqb, eqb-false, le-leb, ltb-true, ltb-false}
@@ -14,11 +14,14 @@ use Rattle.base.specs.Window.{window, byteAt}
 use Rattle.base.specs.Hex.{digitOf, allHex, isHex, undo, Undone}
 use Rattle.base.proofs.TestLaws.{both}
 use Rattle.base.proofs.PlaceLaws.{at-cons, at-end}
-use Rattle.base.proofs.HexLaws.{not-long, hex-parts}
+use Rattle.base.proofs.HexLaws.{hex-range, not-long, hex-parts}
 use Rattle.base.proofs.WindowLaws.{window-part, byte-past}
-use Rattle.json.specs.Json.{putBytes, isEscaped}
+use Rattle.json.specs.Lead.{wf}
+use Rattle.json.specs.Json.{ValidStr, putBytes, isEscaped}
 use Rattle.json.specs.Read.{raw}
 use Rattle.json.specs.Fields.{keep}
+use Rattle.json.proofs.Rows.{found}
+use Rattle.json.proofs.Rfc.{to-rfc}
 use Rattle.lookup.specs.Leaves.{copied, Copies}
 use Rattle.lookup.proofs.StringLaws.{raw-bytes}
 use Rattle.date.specs.Calendar.{form, dateOf}
@@ -91,12 +94,25 @@ plain-digit b h = rw (ne-eqb b 34 quote, ne-eqb b 92 back)
     back e = let k : digitOf 92 < 16 = rw e at h in omega arith
 
 -- digits are written as they are
-put-hex : (t r : Bytes) → allHex t ≡ true → putBytes t r ≡ t ++ r
+pub put-hex : (t r : Bytes) → allHex t ≡ true → putBytes t r ≡ t ++ r
 unfolding putBytes allHex
 put-hex [] r e = refl
 put-hex (b ∷ t) r e =
     let w = both (ltb (digitOf b) 16) (allHex t) e in
     rw (plain-digit b (ltb-true (digitOf b) 16 (w .0)), put-hex t r (w .1))
+
+-- digits are ASCII
+hex-wf : (t : Bytes) → allHex t ≡ true → wf t 0 0 0 ≡ true
+unfolding wf allHex
+hex-wf [] e = refl
+hex-wf (b ∷ t) e =
+    let w = both (ltb (digitOf b) 16) (allHex t) e in
+    let r = hex-range b (ltb-true (digitOf b) 16 (w .0)) in
+    rw (← found 1 32 b (omega arith) refl (omega arith)) (hex-wf t (w .1))
+
+-- so a string of digits is well formed
+pub hex-valid : (t : Bytes) → allHex t ≡ true → ValidStr t
+hex-valid t e = to-rfc t (hex-wf t e)
 
 module _ (s : Bytes) (i m : ℕ) (q : byteAt s (i + m) ≡ 34) where
   pub quote-inside : i + m < length s

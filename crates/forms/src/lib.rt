@@ -351,20 +351,6 @@ fn digest_at(s: &[u8], at: usize) -> IdAt
     id_field(s, lookup::find_member(s, at, b"sha256"))
 }
 
-// "hashes", required.
-pub fn digest_field(s: &[u8], found: Found) -> IdAt
-    ensures { λ r. ⌜ TakesMust (now (s .entry)) found sha256 (viewIdAt r) ⌝ }
-{
-    match found {
-        Found::Nothing => {
-            return no_id();
-        }
-        Found::At(x) => {
-            return digest_at(s, x);
-        }
-    }
-}
-
 pub struct MayId {
     pub ok: bool,
     pub given: bool,

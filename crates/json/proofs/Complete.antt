@@ -139,3 +139,8 @@ mutual
         member-read (read d) p n v (44 ∷ putStr m (58 ∷ put w (putMoreMembers ms (125 ∷ r)))) h k (hv (44 ∷ putStr m (58 ∷ put w (putMoreMembers ms (125 ∷ r)))) refl),
         complete-more-members ms d r m (g .3) (some n) (g .0) (g .1) w (λ R f. complete w d R (g .2) f),
       )
+
+-- an object ends by itself, whatever follows
+pub complete-object : (ms : Members) (d : ℕ) (r : Bytes) → ValidMembers ms d → read (suc d) (put (obj ms) r) ≡ got (obj ms) r
+unfolding kindOf
+complete-object ms d r g = rw (put-obj, read-with, complete-members ms d r g)

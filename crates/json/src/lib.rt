@@ -246,7 +246,7 @@ fn kind_of(b: u8) -> Kind
 }
 
 // The digits of a number, after its minus where there is one.
-fn number(s: &[u8], at: usize, neg: bool) -> Skip
+pub fn number(s: &[u8], at: usize, neg: bool) -> Skip
     ensures { λ r. ⌜ r ≡ endOf (length (now (s .entry))) (numberOf neg (drop at (now (s .entry)))) ⌝ }
 {
     if s.len() <= at {

@@ -1,6 +1,7 @@
 -- A value that stands at a place: it lies in the text, and where it ends.
 use mathlib.Core.Path.{_≡_, refl, sym, ap, _∙_}
 use mathlib.Core.List.{[], _∷_, _++_}
+use mathlib.Core.Option.{Option}
 use mathlib.Core.Bool.{Bool, true, false}
 use Prim.Native.Nat.{ℕ, _≤_, _<_, _+_, _-_}
 use native.Mathlib.Omega.{arith}
@@ -13,9 +14,11 @@ use Rattle.base.proofs.PlaceLaws.{at-cons, at-end}
 use Rattle.json.specs.Json.{Json, put, Canonical, maxDepth}
 use Rattle.json.specs.declared.Skip.{Skip}
 use Rattle.json.specs.declared.Skip.the-variants.{No, End}
+use Rattle.json.specs.Read.{got, read}
 use Rattle.json.proofs.Slices.{put-split}
+use Rattle.json.proofs.Complete.{complete}
 use Rattle.skip.specs.Ends.{Ends, EndAfter}
-use Rattle.lookup.specs.Place.{Stands, PlaceAfter, EndsAt, KnownEnd, FoundEnd, EndsBy}
+use Rattle.lookup.specs.Place.{Stands, Takes, PlaceAfter, EndsAt, KnownEnd, FoundEnd, EndsBy}
 use Rattle.lookup.specs.declared.Found.{Found}
 use Rattle.lookup.specs.declared.Found.the-variants.{Nothing, At}
 use Rattle.lookup.proofs.FirstByte.{Begins, begins}
@@ -111,3 +114,22 @@ end-of-none s found end q = rw q tt
 
 pub known-as : (s : Bytes) (p : ℕ) (f g : Found) → f ≡ g → KnownEnd s p g → KnownEnd s p f
 known-as s p f g e k = rw e k
+
+-- ## One value only stands at a place: the one that is read there
+
+module _ (s : Bytes) (p : ℕ) (w : Json) (q : Bytes) (k : read maxDepth (drop p s) ≡ got w q) where
+  same-value : (v : Json) (h : Stands s p v) → (v ≡ w) × (h .rest ≡ q)
+  same-value v h =
+      let e : got v (h .rest) ≡ got w q = sym (complete v maxDepth (h .rest) (h .valid) (h .free)) ∙ ap (read maxDepth) (sym (h .text)) ∙ k in
+      (cc, cc)
+
+  -- what a form says of it
+  pub takes-of : {A : Type 0} (f : Json → Option A) (o : Option A) → o ≡ f w → Takes s p f o
+  takes-of f o e v h = e ∙ ap f (sym (same-value v h .0))
+
+  -- where it ends
+  pub ends-of : (e : ℕ) → drop e s ≡ q → p < e → e ≤ length s → EndsAt s p (At e)
+  ends-of e t a b = record {
+    means = λ v h. let l : length (drop e s) ≡ length (h .rest) = ap length (t ∙ sym (same-value v h .1)) in let d = length-drop e s in ap At (omega arith);
+    onward = (a, b);
+  }

@@ -9,17 +9,21 @@ use lib.Dec.{leb}
 use lib.ListN.{length, drop}
 use borrow.Author.Tests.{le-leb, lt-leb}
 use Rattle.base.specs.Bytes.{Bytes, bytes, same}
+use Rattle.base.specs.Hex.{isHex, undo}
+use Rattle.base.proofs.TestLaws.{never}
 use Rattle.base.proofs.ByteLaws.{same-sym}
 use Rattle.json.specs.Json.{Json, Members}
 use Rattle.json.specs.Read.{raw}
 use Rattle.json.specs.Fields.{members, field, count, keep, number}
 use Rattle.lookup.specs.Place.{Stands, Takes}
 use Rattle.lookup.specs.Walk.{FirstMember, NextMember}
-use Rattle.lookup.specs.declared.Found.the-variants.{Nothing}
+use Rattle.lookup.specs.declared.Found.{Found as Place}
+use Rattle.lookup.specs.declared.Found.the-variants.{Nothing, At}
+use Rattle.lookup.proofs.StandsLaws.{known-none}
 use Rattle.lookup.specs.declared.Member.{Member}
 use Rattle.lookup.specs.declared.Member.the-variants as member
-use Rattle.rules.specs.Limits.{maxLength, maxTargets, maxPath}
-use Rattle.rules.specs.Take.{_>>=_, must, nameOf, eachNamed}
+use Rattle.rules.specs.Limits.{digestSize, maxLength, maxTargets, maxPath}
+use Rattle.rules.specs.Take.{_>>=_, must, unhex, nameOf, eachNamed}
 use Rattle.rules.specs.Records.{Image}
 use Rattle.rules.specs.Forms.{sha256, image, images}
 use Rattle.rules.specs.Conditions.{imageOf}
@@ -28,14 +32,48 @@ use Rattle.rules.proofs.OptionLaws.{kept-is}
 use Rattle.records.specs.View.{viewId}
 use Rattle.forms.specs.Each.{eachMember}
 use Rattle.forms.proofs.EachLaws.{MembersWalk, members-first, members-none, members-over, members-full, members-broken, members-next}
+use Rattle.forms.proofs.TextLaws.{hex-kept}
 use Rattle.forms.proofs.ListedLaws.{keep-in}
 use Rattle.envelope.proofs.OpenLaws.{cut, held}
-use Rattle.targets_file.specs.View.{viewImage, listedImage, imageIn, viewImages}
-use Rattle.targets_file.specs.Pass.{withImage}
+use Rattle.targets_file.specs.View.{HexAt, description, described, viewImage, ReadsImage, ReadsNamed, listedImage, imageIn, viewImages}
+use Rattle.targets_file.specs.Pass.{withImage, OneMore}
 use Rattle.targets_file.specs.declared.ImageAt.{ImageAt}
 use Rattle.targets_file.specs.declared.ImagesAt.{ImagesAt}
 
 -- ## An image, step by step
+
+abbrev found : ℕ → Bytes → Found
+found n d = record { length = n; digest = d }
+
+abbrev under : Bytes → Found → Image
+under t f = record { path = t; length = f .length; digest = f .digest }
+
+module _ (v : Json) where
+  pub no-length : none ≡ must (bytes "length") (number 0 maxLength) v → none ≡ description v
+  unfolding description bind
+  no-length e = rw (← e)
+
+  pub description-is : (n : ℕ) → some n ≡ must (bytes "length") (number 0 maxLength) v → (o : Option Bytes) → o ≡ must (bytes "hashes") sha256 v
+      → (o >>= λ d. some (found n d)) ≡ description v
+  unfolding description bind
+  description-is n e o f = rw (← e, ← f)
+
+-- digits that were undone, or not
+module _ (n : ℕ) (ok : Bool) (a t : Bytes) (e : keep ok a ≡ unhex n t) where
+  pub unhex-cut : ok ≡ false → none ≡ unhex n t
+  unhex-cut q = sym (cut ok a q) ∙ e
+
+  pub unhex-hex : ok ≡ true → isHex n t ≡ true
+  unhex-hex q = sym (hex-kept n ok a t e) ∙ q
+
+  pub unhex-held : isHex n t ≡ true → (some (undo t) ≡ unhex n t) × (a ≡ undo t)
+  unfolding unhex
+  unhex-held h =
+      let k : unhex n t ≡ some (undo t) = held _ _ h in
+      (sym k, kept-is ok a (e ∙ k) .1)
+
+pub hex-at : (s : Bytes) (r : Place) (i : ℕ) → r ≡ At i → HexAt s r → isHex digestSize (raw (drop i s)) ≡ true
+hex-at s r i q h = rw q at h
 
 module _ (t : Bytes) (v : Json) where
   pub path-empty : length t < 1 → none ≡ image t v
@@ -46,30 +84,48 @@ module _ (t : Bytes) (v : Json) where
   unfolding image nameOf keep bind
   path-long h = rw (lt-leb (length t) maxPath h, and-false)
 
-  module _ (lo : 1 ≤ length t) (hi : length t ≤ maxPath) where
-    pub no-length : none ≡ must (bytes "length") (number 0 maxLength) v → none ≡ image t v
-    unfolding image nameOf keep bind
-    no-length e = rw (le-leb 1 (length t) lo, le-leb (length t) maxPath hi, ← e)
+  -- a name of its form, and what is said under it
+  named-image : 1 ≤ length t → length t ≤ maxPath → image t v ≡ (description v >>= λ f. some (under t f))
+  unfolding image description nameOf keep bind
+  named-image lo hi = rw (le-leb 1 (length t) lo, le-leb (length t) maxPath hi) (go (must (bytes "length") (number 0 maxLength) v) (must (bytes "hashes") sha256 v))
+    where
+      go : (n : Option ℕ) (d : Option Bytes) → (n >>= λ n. d >>= λ d. some (under t (found n d))) ≡ ((n >>= λ n. d >>= λ d. some (found n d)) >>= λ f. some (under t f))
+      go none d = refl
+      go (some n) none = refl
+      go (some n) (some d) = refl
 
-    pub image-is : (n : ℕ) → some n ≡ must (bytes "length") (number 0 maxLength) v → (ok : Bool) (d : Bytes) → keep ok d ≡ must (bytes "hashes") sha256 v
-        → keep ok (record { path = t; length = n; digest = d }) ≡ image t v
-    unfolding image nameOf keep bind
-    image-is n e ok d f =
-        rw (le-leb 1 (length t) lo, le-leb (length t) maxPath hi, ← e, ← f)
-        (keep-in ok d (λ x. record { path = t; length = n; digest = x }))
+module _ (s : Bytes) (i p : ℕ) (r : ImageAt) where
+  pub reads-named : 1 ≤ length (raw (drop i s)) → length (raw (drop i s)) ≤ maxPath → ReadsImage s p r → ReadsNamed s i p r
+  unfolding viewImage described
+  reads-named lo hi w = record {
+    means = λ v h.
+        keep-in (r .ok) (described s r) (under (raw (drop i s)))
+        ∙ ap (λ (o : Option Found). o >>= λ f. some (under (raw (drop i s)) f)) (w .means v h)
+        ∙ sym (named-image (raw (drop i s)) v lo hi);
+    digits = w .digits;
+    end = w .end;
+  }
+
+-- the form is broken
+module _ (s : Bytes) (p : ℕ) (r : ImageAt) (o : r .ok ≡ false) (e : r .end ≡ Nothing) where
+  no-digits : r .ok ≡ true → isHex digestSize (raw (drop (r .digest) s)) ≡ true
+  no-digits q = never (sym q ∙ o)
+
+  pub broken-image : ((v : Json) → Stands s p v → none ≡ description v) → ReadsImage s p r
+  broken-image f = record { means = λ v h. cut _ _ o ∙ f v h; digits = no-digits; end = known-none s p _ e }
+
+  pub broken-name : (i : ℕ) → ((v : Json) → Stands s p v → none ≡ image (raw (drop i s)) v) → ReadsNamed s i p r
+  unfolding viewImage
+  broken-name i f = record { means = λ v h. cut _ _ o ∙ f v h; digits = no-digits; end = known-none s p _ e }
 
 -- ## The image of a path
-
-unfoldable orElse : {A : Type 0} → Option A → Option A → Option A
-orElse none o = o
-orElse (some a) o = some a
 
 abbrev theFound : Image → Found
 theFound i = record { length = i .length; digest = i .digest }
 
 -- the first image of that path counts: one more is looked at where none was found before
-listed-last : (path : Bytes) (is : List Image) (i : Image) → listedImage path (is ++ (i ∷ [])) ≡ orElse (listedImage path is) (keep (same path (i .path)) (theFound i))
-unfolding listedImage imageOf orElse bind keep
+listed-last : (path : Bytes) (is : List Image) (i : Image) → listedImage path (is ++ (i ∷ [])) ≡ withImage (listedImage path is) (theFound i) (same path (i .path))
+unfolding listedImage imageOf withImage bind keep
 listed-last path [] i = go (same path (i .path))
   where
     go : (b : Bool) → (cond b (some i) none >>= λ i. some (theFound i)) ≡ keep b (theFound i)
@@ -77,8 +133,8 @@ listed-last path [] i = go (same path (i .path))
     go false = refl
 listed-last path (x ∷ is) i = go (same path (x .path)) (imageOf path is) (imageOf path (is ++ (i ∷ []))) (listed-last path is i)
   where
-    go : (b : Bool) (before after : Option Image) → (after >>= λ i. some (theFound i)) ≡ orElse (before >>= λ i. some (theFound i)) (keep (same path (i .path)) (theFound i))
-        → (cond b (some x) after >>= λ i. some (theFound i)) ≡ orElse (cond b (some x) before >>= λ i. some (theFound i)) (keep (same path (i .path)) (theFound i))
+    go : (b : Bool) (before after : Option Image) → (after >>= λ i. some (theFound i)) ≡ withImage (before >>= λ i. some (theFound i)) (theFound i) (same path (i .path))
+        → (cond b (some x) after >>= λ i. some (theFound i)) ≡ withImage (cond b (some x) before >>= λ i. some (theFound i)) (theFound i) (same path (i .path))
     go true before after e = refl
     go false before after e = e
 
@@ -101,23 +157,22 @@ images-by v = go (members v)
 
 -- ## One pass over the images
 
--- one image more, whose name is t: the first image of the path is kept
-one-more : (path : Bytes) (all : ImagesAt) (is : List Image) → viewImages all ≡ some (listedImage path is) → (t : Bytes) (i : ImageAt) (asked : Bool) → asked ≡ same t path
-    → viewImages (withImage all i asked) ≡ some (listedImage path (is ++ (record { path = t; length = i .length; digest = viewId (i .digest) } ∷ [])))
-unfolding viewImages withImage orElse keep
-one-more path all is e t i asked q =
-    let k = kept-is (all .ok) (keep (all .listed) (record { length = all .length; digest = viewId (all .digest) })) e in
-    rw (listed-last path is (record { path = t; length = i .length; digest = viewId (i .digest) }), same-sym path t, ← q, ← k .1)
-    (go (all .listed) asked (k .0) refl)
-  where
-    new : ImagesAt
-    new = record { ok = true; listed = true; length = i .length; digest = i .digest; end = Nothing }
+module _ (all : ImagesAt) (o : Option Found) (e : viewImages all ≡ some o) (i : Found) where
+  before-is : (l : Bool) → all .listed ≡ l → o ≡ keep l (record { length = all .length; digest = viewId (all .digest) })
+  unfolding viewImages
+  before-is l q = sym (kept-is (all .ok) _ e .1) ∙ rw q
 
-    go : (l asked : Bool) → all .ok ≡ true → all .listed ≡ l → viewImages (cond l all (cond asked new all))
-        ≡ some (orElse (keep l (record { length = all .length; digest = viewId (all .digest) })) (keep asked (record { length = i .length; digest = viewId (i .digest) })))
-    go true asked o l = rw (o, l) refl
-    go false true o l = refl
-    go false false o l = rw (o, l) refl
+  pub found-before : all .listed ≡ true → (asked : Bool) → viewImages all ≡ some (withImage o i asked)
+  unfolding withImage keep
+  found-before q asked = e ∙ rw (before-is true q) refl
+
+  pub not-asked : all .listed ≡ false → viewImages all ≡ some (withImage o i false)
+  unfolding withImage keep
+  not-asked q = e ∙ rw (before-is false q) refl
+
+  pub found-now : all .listed ≡ false → some (some i) ≡ some (withImage o i true)
+  unfolding withImage keep
+  found-now q = rw (before-is false q) refl
 
 -- n images are read, `all` is what they say of the path, and the members from m on decide the whole
 pub record Pass (s path : Bytes) (at : ℕ) (all : ImagesAt) (n : ℕ) (m : Member) : Type 0 where
@@ -151,21 +206,24 @@ module _ (s path : Bytes) (at : ℕ) (all : ImagesAt) where
         pub pass-full : viewImages r ≡ none → maxTargets ≤ n → Takes s at (imageIn path images) (viewImages r)
         pass-full z l = broken z (λ v h. members-full image 0 maxTargets s m n (w .before) _ (w .walk v h) i j q l)
 
-        module _ (x : ImageAt) (t : Takes s j (image (raw (drop i s))) (viewImage (raw (drop i s)) x)) where
+        module _ (x : ImageAt) (t : ReadsNamed s i j x) where
           pub pass-broken : viewImages r ≡ none → x .ok ≡ false → Takes s at (imageIn path images) (viewImages r)
           unfolding viewImage
           pass-broken z o =
               broken z
-              (λ v h. members-broken image 0 maxTargets s m n (w .before) _ (w .walk v h) i j q (λ u k. sym (cut _ _ o) ∙ t u k))
+              (λ v h. members-broken image 0 maxTargets s m n (w .before) _ (w .walk v h) i j q (λ u k. sym (cut _ _ o) ∙ t .means u k))
 
-          pub pass-next : x .ok ≡ true → n < maxTargets → (asked : Bool) → asked ≡ same (raw (drop i s)) path → r ≡ withImage all x asked
+          pub pass-next : x .ok ≡ true → n < maxTargets → (asked : Bool) → asked ≡ same (raw (drop i s)) path → OneMore s all x asked r
               → (m′ : Member) → NextMember s j m′ → Pass s path at r (n + 1) m′
-          unfolding viewImage
+          unfolding viewImage described
           pass-next o l asked a e m′ y =
-              let new : Image = record { path = raw (drop i s); length = x .length; digest = viewId (x .digest) } in
+              let new : Image = record { path = raw (drop i s); length = x .length; digest = undo (raw (drop (x .digest) s)) } in
               record {
                 few = omega arith;
                 before = w .before ++ (new ∷ []);
-                is = ap viewImages e ∙ one-more path all (w .before) (w .is) (raw (drop i s)) x asked a;
-                walk = λ v h. members-next image 0 maxTargets s m n (w .before) _ (w .walk v h) i j q new (λ u k. sym (held _ _ o) ∙ t u k) m′ y;
+                is =
+                    e (listedImage path (w .before)) (w .is) (t .digits o)
+                    ∙ ap (λ (b : Bool). some (withImage (listedImage path (w .before)) (theFound new) b)) (a ∙ same-sym (raw (drop i s)) path)
+                    ∙ ap some (sym (listed-last path (w .before) new));
+                walk = λ v h. members-next image 0 maxTargets s m n (w .before) _ (w .walk v h) i j q new (λ u k. sym (held _ _ o) ∙ t .means u k) m′ y;
               }

@@ -1,14 +1,24 @@
 -- What the answers stand for. Of a targets file its version, its date and the one image of a path are looked at: the others are only
 -- read for their form.
-use mathlib.Core.Option.{Option, some}
+use mathlib.Core.Path.{_≡_}
+use mathlib.Core.Bool.{true}
+use mathlib.Core.Option.{Option, none, some}
 use mathlib.Core.List.{List}
 use Prim.Native.Nat.{ℕ}
 use lib.IntN.{ℤ}
-use Rattle.base.specs.Bytes.{Bytes}
+use lib.ListN.{drop}
+use Rattle.base.specs.Bytes.{Bytes, bytes}
+use Rattle.base.specs.Hex.{isHex, undo}
 use Rattle.json.specs.Json.{Json}
-use Rattle.json.specs.Fields.{keep}
-use Rattle.rules.specs.Take.{_>>=_}
+use Rattle.json.specs.Read.{raw}
+use Rattle.json.specs.Fields.{keep, number}
+use Rattle.lookup.specs.Place.{Takes, KnownEnd}
+use Rattle.lookup.specs.declared.Found.{Found as Place}
+use Rattle.lookup.specs.declared.Found.the-variants.{Nothing, At}
+use Rattle.rules.specs.Limits.{digestSize, maxLength}
+use Rattle.rules.specs.Take.{_>>=_, must}
 use Rattle.rules.specs.Records.{Image, File, Read}
+use Rattle.rules.specs.Forms.{sha256, image}
 use Rattle.rules.specs.Conditions.{imageOf}
 use Rattle.rules.specs.Asked.{Found}
 use Rattle.records.specs.View.{viewId, viewEntries}
@@ -19,8 +29,40 @@ use Rattle.targets_file.specs.declared.TargetsRead.{TargetsRead}
 
 -- ## An image
 
-unfoldable pub viewImage : Bytes → ImageAt → Option Image
-viewImage path r = keep (r .ok) (record { path = path; length = r .length; digest = viewId (r .digest) })
+-- digits that stand at a place, undone
+unfoldable pub undoneAt : Bytes → Place → Option Bytes
+undoneAt s Nothing = none
+undoneAt s (At i) = some (undo (raw (drop i s)))
+
+-- a place that is handed back is that of a digest's digits
+abbrev pub HexAt : Bytes → Place → Type 0
+HexAt s Nothing = Unit {0}
+HexAt s (At i) = isHex digestSize (raw (drop i s)) ≡ true
+
+-- what an image says besides its name: "length and hashes as above, both required"
+unfoldable pub description : Json → Option Found
+description v =
+    must (bytes "length") (number 0 maxLength) v >>= λ length.
+    must (bytes "hashes") sha256 v >>= λ digest.
+    some (record { length = length; digest = digest })
+
+unfoldable pub described : Bytes → ImageAt → Found
+described s r = record { length = r .length; digest = undo (raw (drop (r .digest) s)) }
+
+unfoldable pub viewImage : Bytes → Bytes → ImageAt → Option Image
+viewImage s path r = keep (r .ok) (record { path = path; length = r .length; digest = undo (raw (drop (r .digest) s)) })
+
+-- What a reader promises of the image at p: what it says, where its digits stand and where it ends.
+pub record ReadsImage (s : Bytes) (p : ℕ) (r : ImageAt) : Type 0 where
+  pub means : Takes s p description (keep (r .ok) (described s r))
+  pub digits : r .ok ≡ true → isHex digestSize (raw (drop (r .digest) s)) ≡ true
+  pub end : KnownEnd s p (r .end)
+
+-- the same of an image whose name is read at i
+pub record ReadsNamed (s : Bytes) (i p : ℕ) (r : ImageAt) : Type 0 where
+  pub means : Takes s p (image (raw (drop i s))) (viewImage s (raw (drop i s)) r)
+  pub digits : r .ok ≡ true → isHex digestSize (raw (drop (r .digest) s)) ≡ true
+  pub end : KnownEnd s p (r .end)
 
 -- the length and digest of the image of that path, where it is listed
 unfoldable pub listedImage : Bytes → List Image → Option Found

@@ -1,17 +1,17 @@
 // A targets file, read (01, refusals 1 to 4), and the image of a path in it: one pass over its images does both.
 ghost use mathlib.Core.Path.{_≡_};
+ghost use mathlib.Core.Bool.{true, false};
 ghost use mathlib.Core.Option.{none, some};
-ghost use lib.ListN.{drop};
-ghost use Rattle.base.specs.Bytes.{Bytes};
-ghost use Rattle.json.specs.Read.{raw};
 ghost use Rattle.lookup.specs.Place.{Takes, KnownEnd, FoundEnd};
 ghost use Rattle.lookup.specs.declared.Found.the-variants.{Nothing, At};
-ghost use Rattle.rules.specs.Forms.{image as imageForm, images as imagesForm};
+ghost use Rattle.rules.specs.Forms.{sha256, images as imagesForm};
 ghost use Rattle.rules.specs.State.{kept, targetsIn};
 ghost use Rattle.forms.specs.Member.{TakesMust};
-ghost use Rattle.targets_file.specs.Pass.{withImage};
-ghost use Rattle.targets_file.specs.View.{viewImage, imageIn, viewImages, seen, viewTargetsRead};
+ghost use Rattle.targets_file.specs.Plain.{PlainLength};
+ghost use Rattle.targets_file.specs.Pass.{OneMore};
+ghost use Rattle.targets_file.specs.View.{undoneAt, HexAt, ReadsImage, ReadsNamed, imageIn, viewImages, seen, viewTargetsRead};
 use date::Time;
+use json::Skip;
 use lookup::Found;
 use lookup::Member;
 use lookup::Number;
@@ -20,37 +20,113 @@ use records::Id;
 
 // ---- An image
 
-// An image, and where it ends.
+// An image: its length, where the digits of its digest stand, and where it ends. Of most images no more is asked than their form.
 pub struct ImageAt {
     pub ok: bool,
     pub length: u64,
-    pub digest: Id,
+    pub digest: usize,
     pub end: Found,
 }
 
 fn no_image() -> ImageAt
-    ensures { λ r. ⌜ ((path : Bytes) → viewImage path r ≡ none) × (r .end ≡ Nothing) ⌝ }
+    ensures { λ r. ⌜ (r .ok ≡ false) × (r .end ≡ Nothing) ⌝ }
 {
     ImageAt {
         ok: false,
         length: 0,
-        digest: Id { bytes: [0u8; 32] },
+        digest: 0,
         end: Found::Nothing,
     }
 }
 
-// The member whose name is read at `i`, just past its opening quote, and whose value stands at `at`: "names of 1 to 128 bytes, each with
-// length and hashes .., both required".
-fn image_at(s: &[u8], i: usize, at: usize) -> ImageAt
-    ensures { λ r. ⌜ Takes (now (s .entry)) at (imageForm (raw (drop i (now (s .entry))))) (viewImage (raw (drop i (now (s .entry)))) r) × KnownEnd (now (s .entry)) at (r .end) ⌝ }
+// The image at `at` if it has no members but "hashes" and "length", and no hash but "sha256". Names rise, so that it has one text only.
+fn plain_image(s: &[u8], at: usize) -> ImageAt
+    ensures { λ r. ⌜ (r .ok ≡ true → ReadsImage (now (s .entry)) at r) ⌝ }
 {
-    let name_length = lookup::text_len(s, i);
-    if name_length < 1 {
+    let opening = b"{\"hashes\":{\"sha256\":\"";
+    let between = b"\"},\"length\":";
+    if !base::has_at(s, at, opening) {
         return no_image();
     }
-    if records::MAX_PATH < name_length {
+    let digest = at + opening.len();
+    let digits = records::DIGEST * 2;
+    if s.len() - digest < digits {
         return no_image();
     }
+    let e = digest + digits;
+    if !base::has_at(s, e, between) {
+        return no_image();
+    }
+    if !base::is_hex(&s[digest..e], records::DIGEST) {
+        return no_image();
+    }
+    plain_length(s, digest, e + between.len())
+}
+
+// Its length at `at`, and the closing brace.
+fn plain_length(s: &[u8], digest: usize, at: usize) -> ImageAt
+    ensures { λ r. ⌜ (r .ok ≡ true → PlainLength (now (s .entry)) digest at r) ⌝ }
+{
+    match json::number(s, at, false) {
+        Skip::No => {
+            return no_image();
+        }
+        Skip::End(e) => {
+            if s.len() <= e {
+                return no_image();
+            }
+            if s[e] != b'}' {
+                return no_image();
+            }
+            match lookup::number_at(s, at, 0, records::MAX_LENGTH) {
+                Number::No => {
+                    return no_image();
+                }
+                Number::Is(length) => {
+                    return ImageAt {
+                        ok: true,
+                        length,
+                        digest,
+                        end: Found::At(e + 1),
+                    };
+                }
+            }
+        }
+    }
+}
+
+// Where the digits of the "sha256" of the hashes stand.
+fn digest_place(s: &[u8], hashes: Found) -> Found
+    ensures { λ r. ⌜ TakesMust (now (s .entry)) hashes sha256 (undoneAt (now (s .entry)) r) × HexAt (now (s .entry)) r ⌝ }
+{
+    match hashes {
+        Found::Nothing => {
+            return Found::Nothing;
+        }
+        Found::At(h) => match lookup::find_member(s, h, b"sha256") {
+            Found::Nothing => {
+                return Found::Nothing;
+            }
+            Found::At(x) => match lookup::string_at(s, x) {
+                Found::Nothing => {
+                    return Found::Nothing;
+                }
+                Found::At(i) => {
+                    let undone = forms::id_in(s, i);
+                    if !undone.ok {
+                        return Found::Nothing;
+                    }
+                    return Found::At(i);
+                }
+            },
+        },
+    }
+}
+
+// The image at `at`, whatever else it has: "length and hashes as above, both required".
+fn walked_image(s: &[u8], at: usize) -> ImageAt
+    ensures { λ r. ⌜ ReadsImage (now (s .entry)) at r ⌝ }
+{
     let m = lookup::find_members(s, at, b"length", b"hashes", b"", b"");
     let first = m.first;
     let second = m.second;
@@ -59,17 +135,38 @@ fn image_at(s: &[u8], i: usize, at: usize) -> ImageAt
         Number::No => {
             return no_image();
         }
-        Number::Is(length) => {
-            let read = forms::digest_field(s, second);
-            let digest = read.id;
-            return ImageAt {
-                ok: read.ok,
-                length,
-                digest,
-                end,
-            };
-        }
+        Number::Is(length) => match digest_place(s, second) {
+            Found::Nothing => {
+                return no_image();
+            }
+            Found::At(digest) => {
+                return ImageAt {
+                    ok: true,
+                    length,
+                    digest,
+                    end,
+                };
+            }
+        },
     }
+}
+
+// The member whose name is read at `i`, just past its opening quote, and whose value stands at `at`: "names of 1 to 128 bytes".
+fn image_at(s: &[u8], i: usize, at: usize) -> ImageAt
+    ensures { λ r. ⌜ ReadsNamed (now (s .entry)) i at r ⌝ }
+{
+    let name_length = lookup::text_len(s, i);
+    if name_length < 1 {
+        return no_image();
+    }
+    if records::MAX_PATH < name_length {
+        return no_image();
+    }
+    let plain = plain_image(s, at);
+    if plain.ok {
+        return plain;
+    }
+    walked_image(s, at)
 }
 
 // ---- "targets"
@@ -123,8 +220,8 @@ fn ended(all: ImagesAt, e: usize) -> ImagesAt
 }
 
 // One image more, `asked` where its name is the path asked for: the first such image is kept.
-fn with_image(all: ImagesAt, image: ImageAt, asked: bool) -> ImagesAt
-    ensures { λ r. ⌜ r ≡ withImage all image asked ⌝ }
+fn with_image(s: &[u8], all: ImagesAt, image: ImageAt, asked: bool) -> ImagesAt
+    ensures { λ r. ⌜ OneMore (now (s .entry)) all image asked r ⌝ }
 {
     if all.listed {
         return all;
@@ -132,7 +229,8 @@ fn with_image(all: ImagesAt, image: ImageAt, asked: bool) -> ImagesAt
     if !asked {
         return all;
     }
-    let digest = image.digest;
+    let undone = forms::id_in(s, image.digest);
+    let digest = undone.id;
     ImagesAt {
         ok: true,
         listed: true,
@@ -160,7 +258,7 @@ fn each_image(s: &[u8], at: usize, path: &[u8]) -> ImagesAt
                     return no_images();
                 }
                 let asked = lookup::text_is(s, i, path);
-                all = with_image(all, image, asked);
+                all = with_image(s, all, image, asked);
                 n += 1;
                 let end = image.end;
                 m = lookup::next_member_by(s, v, end);

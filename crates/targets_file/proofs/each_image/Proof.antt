@@ -50,7 +50,7 @@ returns-2 c =
     let l = c .before .before .before .before .before .before .before .before .loop in
     let a = c .before .before .before .before .before .before .before .before .before .before .before .before .before .args in (
       pass-broken (a .s .now) (a .path .now) (a .at) (l .all) (l .n) (l .m) (l .inv .0) (c .no-images2 .result) _ _ (c .before .before .before .before .before .before .m .given .1)
-          (c .before .before .before .image-at .result) (c .before .before .before .image-at .ensures .0) (c .no-images2 .ensures .0) (not-true _ (c .before .if2 .taken)),
+          (c .before .before .before .image-at .result) (c .before .before .before .image-at .ensures) (c .no-images2 .ensures .0) (not-true _ (c .before .if2 .taken)),
       known-none _ _ _ (c .no-images2 .ensures .1),
     )
 
@@ -74,8 +74,8 @@ loop-again c =
     let l = c .before .before .before .before .before .before .before .before .before .before .loop in
     let a = c .before .before .before .before .before .before .before .before .before .before .before .before .before .before .before .args in
     let q = c .before .before .before .before .before .before .before .before .m .given .1 in
-    let n = c .next-member-by .ensures .means (c .before .before .before .before .before .image-at .ensures .1) in (
-      pass-next (a .s .now) (a .path .now) (a .at) (l .all) (l .n) (l .m) (l .inv .0) (c .before .with-image .result) _ _ q (c .before .before .before .before .before .image-at .result) (c .before .before .before .before .before .image-at .ensures .0)
+    let n = c .next-member-by .ensures .means (c .before .before .before .before .before .image-at .ensures .end) in (
+      pass-next (a .s .now) (a .path .now) (a .at) (l .all) (l .n) (l .m) (l .inv .0) (c .before .with-image .result) _ _ q (c .before .before .before .before .before .image-at .result) (c .before .before .before .before .before .image-at .ensures)
           (not-false _ (c .before .before .before .if2 .left)) (omega (arith, c .before .before .before .before .before .before .if1 .left)) _ (c .before .before .text-is .ensures) (c .before .with-image .ensures) _ n,
       walks-next (a .s .now) _ (l .m) (l .inv .1) _ _ q _ n,
     )

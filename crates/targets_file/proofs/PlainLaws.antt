@@ -1,0 +1,143 @@
+-- The one text of an image with no members but "hashes" and "length", and no hash but "sha256": it is read as that image.
+use mathlib.Core.Path.{_≡_, refl, sym, ap, _∙_}
+use mathlib.Core.List.{[], _∷_, _++_}
+use mathlib.Core.Option.{some, bind}
+use mathlib.Core.Bool.{true, false}
+use Prim.Native.Nat.{ℕ, _+_, _-_, _<_}
+use Prim.Native.Char.{code}
+use native.Mathlib.Omega.{arith}
+use lib.ListN.{length, take, drop, getD, length-drop, length-append, take-append-drop}
+use lib.Seq.{drop-drop, drop-at}
+use Rattle.base.specs.Bytes.{Bytes, bytes, same, less}
+use Rattle.base.specs.Hex.{isHex, allHex, undo}
+use Rattle.base.proofs.TestLaws.{never}
+use Rattle.base.proofs.PlaceLaws.{at-cons}
+use Rattle.base.proofs.HexLaws.{hex-parts}
+use Rattle.json.specs.Lead.{wf, leadOf}
+use Rattle.json.specs.Json.{num, str, obj, Members, mnil, mcons, put, putBytes, Valid, ValidMembers, validNum, maxDepth}
+use Rattle.json.specs.Read.{Got, bad, got, endOf, number, read, raw}
+use Rattle.json.specs.Fields as fields
+use Rattle.json.specs.Fields.{field, members, lookup, text, keep}
+use Rattle.json.specs.declared.Skip.the-variants.{End}
+use Rattle.json.proofs.Says.{says-of}
+use Rattle.json.proofs.NumberLaws.{number-sound}
+use Rattle.json.proofs.Puts.{put-num}
+use Rattle.json.proofs.Rfc.{to-rfc}
+use Rattle.json.proofs.Complete.{complete-object}
+use Rattle.lookup.specs.declared.Found.the-variants.{At}
+use Rattle.lookup.specs.Leaves.{numberIn}
+use Rattle.lookup.proofs.NumberLaws.{number-of}
+use Rattle.lookup.proofs.StandsLaws.{known-as, takes-of, ends-of}
+use Rattle.lookup.proofs.StringLaws.{raw-bytes}
+use Rattle.rules.specs.Limits.{digestSize, maxLength}
+use Rattle.rules.specs.Take.{must, hex, unhex}
+use Rattle.rules.specs.Forms.{sha256}
+use Rattle.forms.proofs.TextLaws.{put-hex, hex-valid}
+use Rattle.targets_file.specs.View.{description, described, ReadsImage}
+use Rattle.targets_file.specs.Plain.{plainImage, opening, between, PlainLength}
+use Rattle.targets_file.specs.declared.ImageAt.{ImageAt}
+
+-- ## Its length
+
+-- the digits of a number that ends at e
+record Written (s : Bytes) (p e : ℕ) : Type 0 where
+  digits : Bytes
+  valid : validNum false digits ≡ true
+  text : drop p s ≡ digits ++ drop e s
+  after : p < e
+
+some-digit : (ds : Bytes) → validNum false ds ≡ true → 0 < length ds
+some-digit [] v = never (sym v)
+some-digit (b ∷ ds) v = omega arith
+
+written : (s : Bytes) (p e : ℕ) → End e ≡ endOf (length s) (number false (drop p s)) → Written s p e
+written s p e x = go (number false (drop p s)) refl x
+  where
+    go : (g : Got Bytes) → number false (drop p s) ≡ g → End e ≡ endOf (length s) g → Written s p e
+    go bad k x = let z : _≡_ {A = ℕ} 0 1 = cc in absurd (omega arith)
+    go (got ds q) k x =
+        let w = says-of (rw k at (number-sound false (drop p s))) in
+        let l : length s - p ≡ length ds + length q = sym (length-drop p s) ∙ ap length (w .0) ∙ length-append ds q in
+        let n = some-digit ds (w .1) in
+        let f : e ≡ length s - length q = cc in
+        let m : e ≡ p + length ds = omega arith in
+        record {
+          digits = ds;
+          valid = w .1;
+          text = w .0 ∙ ap (λ (y : Bytes). ds ++ y) (sym (ap (λ (y : ℕ). drop y s) m ∙ sym (drop-drop (length ds) p s) ∙ ap (λ (y : Bytes). drop (length ds) y) (w .0) ∙ drop-at ds q (length ds) refl));
+          after = omega arith;
+        }
+
+pub plain-length : (s : Bytes) (i p e : ℕ) (r : ImageAt) → End e ≡ endOf (length s) (number false (drop p s)) → e < length s → getD s e 0 ≡ code "}"
+    → r .digest ≡ i → r .end ≡ At (e + 1) → some (r .length) ≡ numberIn 0 maxLength (drop p s) → PlainLength s i p r
+unfolding Valid
+plain-length s i p e r x h b d n k =
+    let w = written s p e x in
+    let a = w .after in
+    let t : drop p s ≡ w .digits ++ (code "}" ∷ drop (e + 1) s) = w .text ∙ ap (λ (y : Bytes). w .digits ++ y) (at-cons s e h ∙ ap (λ (c : ℕ). c ∷ drop (e + 1) s) b) in
+    record {
+      digest = d;
+      past = e + 1;
+      end = n;
+      within = (omega arith, omega arith);
+      written = w .digits;
+      valid = w .valid;
+      text = t;
+      is = k ∙ number-of 0 maxLength s p (num false (w .digits)) (record { rest = code "}" ∷ drop (e + 1) s; text = t ∙ sym (put-num false (w .digits) _); free = refl; valid = w .valid });
+    }
+
+-- ## Its text
+
+-- the members of that image
+abbrev plainMembers : Bytes → Bytes → Members
+plainMembers hash written = mcons (bytes "hashes") (obj (mcons (bytes "sha256") (str hash) mnil)) (mcons (bytes "length") (num false written) mnil)
+
+module _ (hash written q : Bytes) (h : allHex hash ≡ true) (v : validNum false written ≡ true) where
+  plain-text : put (plainImage hash written) q ≡ opening ++ (hash ++ (between ++ (written ++ (code "}" ∷ q))))
+  unfolding plainImage put putBytes
+  plain-text = ap (λ (x : Bytes). opening ++ x) (put-hex hash (between ++ (written ++ (code "}" ∷ q))) h)
+
+  plain-valid : ValidMembers (plainMembers hash written) 7
+  unfolding Valid wf leadOf less
+  plain-valid = (to-rfc (bytes "hashes") refl, (to-rfc (bytes "sha256") refl, hex-valid hash h, tt), (refl, to-rfc (bytes "length") refl, v, tt))
+
+-- what it says
+plain-says : (hash written : Bytes) → isHex digestSize hash ≡ true → (n : ℕ) → some n ≡ fields.number 0 maxLength (num false written)
+    → some (record { length = n; digest = undo hash }) ≡ description (plainImage hash written)
+unfolding plainImage description must sha256 hex unhex field members lookup text keep bind same
+plain-says hash written h n e = rw (← e, h) refl
+
+module _ (s : Bytes) (p i e q : ℕ) (r : ImageAt) where
+  abbrev hash : Bytes
+  hash = take (e - i) (drop i s)
+
+  module _ (before : drop p s ≡ opening ++ drop i s) (digits : isHex digestSize hash ≡ true) (long : e ≡ i + 64) (ahead : p < q)
+      (after : drop e s ≡ between ++ drop q s) (ok : r .ok ≡ true) (w : PlainLength s i q r) where
+    all-hex : allHex hash ≡ true
+    all-hex = hex-parts digestSize hash digits .1
+
+    split : drop i s ≡ hash ++ drop e s
+    split =
+        let m : i + (e - i) ≡ e = omega arith in
+        sym (take-append-drop (e - i) (drop i s)) ∙ ap (λ (x : Bytes). take (e - i) (drop i s) ++ x) (drop-drop (e - i) i s ∙ ap (λ (n : ℕ). drop n s) m)
+
+    plain-read : read maxDepth (drop p s) ≡ got (plainImage hash (w .written)) (drop (w .past) s)
+    unfolding plainImage
+    plain-read =
+        let rest = drop (w .past) s in
+        let t : drop p s ≡ put (plainImage hash (w .written)) rest =
+        before ∙ ap (λ (x : Bytes). opening ++ x) (split ∙ ap (λ (x : Bytes). hash ++ x) (after ∙ ap (λ (x : Bytes). between ++ x) (w .text)))
+        ∙ sym (plain-text hash (w .written) rest all-hex (w .valid)) in
+        ap (read maxDepth) t ∙ complete-object (plainMembers hash (w .written)) 7 rest (plain-valid hash (w .written) rest all-hex (w .valid))
+
+    -- the string at i is the digits
+    plain-raw : raw (drop i s) ≡ hash
+    plain-raw = ap raw (split ∙ ap (λ (x : Bytes). hash ++ x) after ∙ sym (put-hex hash _ all-hex)) ∙ raw-bytes hash _
+
+    pub plain-image : ReadsImage s p r
+    unfolding described keep
+    plain-image = record {
+      means = rw ok (takes-of s p _ _ plain-read description _ (ap (λ (d : ℕ). some (record { length = r .length; digest = undo (raw (drop d s)) })) (w .digest) ∙ ap (λ (x : Bytes). some (record { length = r .length; digest = undo x })) plain-raw ∙ plain-says hash (w .written) digits (r .length) (w .is)));
+      digits = λ _. ap (λ (d : ℕ). isHex digestSize (raw (drop d s))) (w .digest) ∙ ap (isHex digestSize) plain-raw ∙ digits;
+      end = known-as s p _ _ (w .end) (ends-of s p _ _ plain-read (w .past) refl (let a = w .within .0 in omega arith) (w .within .1));
+    }
