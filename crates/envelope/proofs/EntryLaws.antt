@@ -1,76 +1,70 @@
 -- Signature entries: one entry, and the keyids of all of them.
-use mathlib.Core.Path.{_≡_, refl, sym, _∙_}
+use mathlib.Core.Path.{_≡_, refl, sym, ap, _∙_}
 use mathlib.Core.Option.{Option, none, some, bind}
 use mathlib.Core.List.{List, _∷_}
 use mathlib.Core.Bool.{Bool, true, false, _&&_}
 use Prim.Native.Nat.{ℕ}
 use native.Mathlib.Omega.{arith}
 use lib.Dec.{leb}
+use lib.ListN.{drop}
 use borrow.Author.Tests.{le-leb}
 use Rattle.base.specs.Bytes.{Bytes, bytes}
-use Rattle.base.specs.Hex.{isHex, undo}
+use Rattle.base.specs.Hex.{undo}
+use Rattle.base.proofs.TestLaws.{never}
 use Rattle.json.specs.Json.{Json, Items, inil, icons}
-use Rattle.json.specs.Fields.{items, text, field, size, keep}
+use Rattle.json.specs.Read.{raw}
+use Rattle.json.specs.Fields.{items, size, keep}
+use Rattle.lookup.specs.Place.{Stands}
+use Rattle.lookup.specs.declared.Found.the-variants.{Nothing}
+use Rattle.lookup.proofs.StandsLaws.{known-none}
 use Rattle.rules.specs.Limits.{maxEntries, keySize, signatureSize}
-use Rattle.rules.specs.Take.{_>>=_, must, unhex, hex, each}
-use Rattle.rules.proofs.OptionLaws.{none-not-some}
+use Rattle.rules.specs.Take.{_>>=_, must, hex, each}
 use Rattle.rules.specs.Records.{Entry}
 use Rattle.rules.specs.Forms.{entry, entries}
 use Rattle.rules.specs.Reading.{keyidsOf}
 use Rattle.forms.specs.Each.{eachItem}
-use Rattle.forms.proofs.ListedLaws.{keep-in}
-use Rattle.forms.specs.Member.{signature}
-use Rattle.envelope.specs.Header.{keyidOf, keyids}
+use Rattle.envelope.specs.Header.{keyidOf, keyids, viewEntry, ReadsEntry}
+use Rattle.envelope.specs.declared.EntryAt.{EntryAt}
+use Rattle.envelope.proofs.OpenLaws.{cut, held}
 
 -- ## One entry
 
-module _ (v : Json) (ok : Bool) (id : Bytes) (e : keep ok id ≡ must (bytes "keyid") (hex keySize) v) where
-  pub no-keyid : ok ≡ false → none ≡ entry v
-  unfolding entry bind keep
-  no-keyid q = rw (← e, q)
-
-  pub entry-is : ok ≡ true → (ok′ : Bool) (sig : Bytes) → keep ok′ sig ≡ must (bytes "sig") (hex signatureSize) v
-      → keep ok′ (record { keyid = id; sig = sig }) ≡ entry v
-  unfolding entry bind keep
-  entry-is q ok′ sig f = rw (← e, q, ← f) (keep-in ok′ sig (λ x. record { keyid = id; sig = x }))
-
--- ## Its keyid, where the signature is only looked at
-
-abbrev made : Bytes → Bytes → Option Entry
-made id s = some (record { keyid = id; sig = s })
-
 module _ (v : Json) where
-  looked-at : (k : Bytes) → must k signature v ≡ (must k (hex signatureSize) v >>= λ _. some (tt {0}))
-  unfolding must signature hex unhex bind keep
-  looked-at k = go (field k v)
-    where
-      test : (b : Bool) (x : Bytes) → keep b (tt {0}) ≡ (keep b x >>= λ _. some (tt {0}))
-      test true x = refl
-      test false x = refl
+  pub no-keyid : none ≡ must (bytes "keyid") (hex keySize) v → none ≡ entry v
+  unfolding entry bind
+  no-keyid e = rw (← e)
 
-      said : (o : Option Bytes) → (o >>= λ b. keep (isHex signatureSize b) (tt {0})) ≡ ((o >>= λ b. keep (isHex signatureSize b) (undo b)) >>= λ _. some (tt {0}))
-      said none = refl
-      said (some b) = test (isHex signatureSize b) (undo b)
+  module _ (keyid : Bytes) (e : some keyid ≡ must (bytes "keyid") (hex keySize) v) where
+    pub no-sig : none ≡ must (bytes "sig") (hex signatureSize) v → none ≡ entry v
+    unfolding entry bind
+    no-sig f = rw (← e, ← f)
 
-      go : (o : Option Json) → (o >>= λ w. text w >>= λ b. keep (isHex signatureSize b) (tt {0})) ≡ ((o >>= λ w. text w >>= λ b. keep (isHex signatureSize b) (undo b)) >>= λ _. some (tt {0}))
-      go none = refl
-      go (some w) = said (text w)
+    pub entry-is : (sig : Bytes) → some sig ≡ must (bytes "sig") (hex signatureSize) v → some (record { keyid = keyid; sig = sig }) ≡ entry v
+    unfolding entry bind
+    entry-is sig f = rw (← e, ← f)
 
-  module _ (ok : Bool) (id : Bytes) (e : keep ok id ≡ must (bytes "keyid") (hex keySize) v) where
-    pub keyid-broken : ok ≡ false → none ≡ keyidOf v
-    unfolding keyidOf bind
-    keyid-broken q = rw (← no-keyid v ok id e q)
+-- the form is broken
+pub broken-entry : (s : Bytes) (p : ℕ) (r : EntryAt) → r .ok ≡ false → r .end ≡ Nothing → ((v : Json) → Stands s p v → none ≡ entry v) → ReadsEntry s p r
+unfolding viewEntry
+broken-entry s p r o e f = record {
+  means = λ v h. cut _ _ o ∙ f v h;
+  keyid = λ q. never (sym q ∙ o);
+  sig = λ q. never (sym q ∙ o);
+  end = known-none s p _ e;
+}
 
-    pub keyid-is : ok ≡ true → (sig : Bool) → keep sig (tt {0}) ≡ must (bytes "sig") signature v → keep sig id ≡ keyidOf v
-    unfolding keyidOf entry bind keep
-    keyid-is q sig f = rw (← e, q) (go sig (must (bytes "sig") (hex signatureSize) v) (f ∙ looked-at (bytes "sig")))
-      where
-        go : (sig : Bool) (o : Option Bytes) → keep sig (tt {0}) ≡ (o >>= λ _. some (tt {0}))
-            → keep sig id ≡ ((o >>= made id) >>= λ e. some (e .keyid))
-        go true none f = none-not-some (sym f)
-        go true (some s) f = refl
-        go false none f = refl
-        go false (some s) f = none-not-some f
+-- ## Its keyid
+
+module _ (s : Bytes) (r : EntryAt) (v : Json) (e : viewEntry s r ≡ entry v) where
+  pub keyid-broken : r .ok ≡ false → none ≡ keyidOf v
+  unfolding keyidOf viewEntry bind
+  keyid-broken q = let k : none ≡ entry v = sym (cut _ _ q) ∙ e in rw (← k)
+
+  pub keyid-is : r .ok ≡ true → (k : Bytes) → k ≡ undo (raw (drop (r .keyid) s)) → some k ≡ keyidOf v
+  unfolding keyidOf viewEntry bind
+  keyid-is q k z =
+      let t : some (record { keyid = undo (raw (drop (r .keyid) s)); sig = undo (raw (drop (r .sig) s)) }) ≡ entry v = sym (held _ _ q) ∙ e in
+      rw (← t) (ap some z)
 
 -- ## All of them
 

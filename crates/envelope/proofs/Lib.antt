@@ -1,5 +1,6 @@
 pub mod BodyLaws
 pub mod EntryLaws
+pub mod PlainLaws
 pub mod HeaderLaws
 pub mod ObjectLaws
 pub mod OpenLaws

@@ -1,21 +1,24 @@
 -- Entries by their keyids, and what every role's file says besides its body: parts of the forms of rules, as they are read.
+use mathlib.Core.Path.{_≡_}
 use mathlib.Core.Option.{Option, some}
 use mathlib.Core.List.{List}
-use mathlib.Core.Bool.{Bool}
+use mathlib.Core.Bool.{Bool, true}
 use Prim.Native.Nat.{ℕ}
 use lib.IntN.{ℤ}
+use lib.ListN.{drop}
 use Rattle.base.specs.Bytes.{Bytes, bytes}
-use Rattle.base.specs.Window.{window}
+use Rattle.base.specs.Hex.{isHex, undo}
 use Rattle.json.specs.Json.{Json}
+use Rattle.json.specs.Read.{raw}
 use Rattle.json.specs.Fields.{text, keep}
-use Rattle.rules.specs.Limits.{signatureSize}
+use Rattle.lookup.specs.Place.{Takes, KnownEnd}
+use Rattle.rules.specs.Limits.{keySize, signatureSize}
 use Rattle.rules.specs.Take.{_>>=_, must, word, date}
 use Rattle.rules.specs.Records as rules
 use Rattle.rules.specs.Forms as forms
 use Rattle.rules.specs.Reading.{keyidsOf}
-use Rattle.records.specs.View.{viewId, viewEntries}
+use Rattle.records.specs.View.{viewEntries}
 use Rattle.envelope.specs.declared.EntryAt.{EntryAt}
-use Rattle.envelope.specs.declared.KeyidAt.{KeyidAt}
 use Rattle.envelope.specs.declared.EntriesAt.{EntriesAt}
 use Rattle.envelope.specs.declared.Spec.{Spec}
 use Rattle.envelope.specs.declared.HeaderAt.{HeaderAt}
@@ -30,11 +33,16 @@ keyidOf v = forms.entry v >>= λ e. some (e .keyid)
 unfoldable pub keyids : Json → Option (List Bytes)
 keyids v = forms.entries v >>= λ es. some (keyidsOf es)
 
-unfoldable pub viewEntry : EntryAt → Option rules.Entry
-viewEntry r = keep (r .ok) (record { keyid = viewId (r .keyid); sig = window (r .sig) 0 signatureSize })
+-- an entry by the places of its digits
+unfoldable pub viewEntry : Bytes → EntryAt → Option rules.Entry
+viewEntry s r = keep (r .ok) (record { keyid = undo (raw (drop (r .keyid) s)); sig = undo (raw (drop (r .sig) s)) })
 
-unfoldable pub viewKeyid : KeyidAt → Option Bytes
-viewKeyid r = keep (r .ok) (viewId (r .keyid))
+-- What a reader promises of the entry at p: what it says, that digits stand at the places, and where it ends.
+pub record ReadsEntry (s : Bytes) (p : ℕ) (r : EntryAt) : Type 0 where
+  pub means : Takes s p forms.entry (viewEntry s r)
+  pub keyid : r .ok ≡ true → isHex keySize (raw (drop (r .keyid) s)) ≡ true
+  pub sig : r .ok ≡ true → isHex signatureSize (raw (drop (r .sig) s)) ≡ true
+  pub end : KnownEnd s p (r .end)
 
 unfoldable pub viewEntriesAt : EntriesAt → Option (List Bytes)
 viewEntriesAt r = keep (r .ok) (viewEntries (r .entries))

@@ -1,5 +1,6 @@
 // The envelope of a file (01, "Forms"): signature entries, the signed part by its place, and what every role's file says.
 ghost use mathlib.Core.Path.{_≡_};
+ghost use mathlib.Core.Bool.{true, false};
 ghost use mathlib.Core.Option.{none};
 ghost use lib.ListN.{drop, take};
 ghost use Rattle.base.specs.Bytes.{bytes, same};
@@ -7,9 +8,9 @@ ghost use Rattle.json.specs.Read.{raw};
 ghost use Rattle.json.specs.Fields.{keep};
 ghost use Rattle.lookup.specs.Place.{Takes, KnownEnd};
 ghost use Rattle.lookup.specs.declared.Found.the-variants.{Nothing};
-ghost use Rattle.rules.specs.Forms.{entry, knownSpec};
+ghost use Rattle.rules.specs.Forms.{knownSpec};
 ghost use Rattle.rules.specs.Reading.{readEnvelope};
-ghost use Rattle.envelope.specs.Header.{keyidOf, keyids, viewEntry, viewKeyid, viewEntriesAt, specKnown, header, viewSpec, viewHeader};
+ghost use Rattle.envelope.specs.Header.{ReadsEntry, keyids, viewEntriesAt, specKnown, header, viewSpec, viewHeader};
 ghost use Rattle.forms.specs.Member.{TakesMust};
 ghost use Rattle.envelope.specs.Open.{object, Opens, IsShut};
 use date::Date;
@@ -34,80 +35,95 @@ pub const OTHER_SPEC: u8 = 4;
 
 // ---- Signature entries
 
-// An entry, and where it ends.
+// An entry, by where the digits of its keyid and of its signature stand, and where it ends.
 pub struct EntryAt {
     pub ok: bool,
-    pub keyid: Id,
-    pub sig: [u8; 64],
+    pub keyid: usize,
+    pub sig: usize,
     pub end: Found,
 }
 
 fn no_entry() -> EntryAt
-    ensures { λ r. ⌜ (viewEntry r ≡ none) × (r .end ≡ Nothing) ⌝ }
+    ensures { λ r. ⌜ (r .ok ≡ false) × (r .end ≡ Nothing) ⌝ }
 {
     EntryAt {
         ok: false,
-        keyid: Id { bytes: [0u8; 32] },
-        sig: [0u8; 64],
+        keyid: 0,
+        sig: 0,
         end: Found::Nothing,
     }
 }
 
-// "keyid" and "sig".
-pub fn entry_at(s: &[u8], at: usize) -> EntryAt
-    ensures { λ r. ⌜ Takes (now (s .entry)) at entry (viewEntry r) × KnownEnd (now (s .entry)) at (r .end) ⌝ }
+// The entry at `at` if it has no members but "keyid" and "sig". Names rise, so that it has one text only: {"keyid":"digits","sig":"digits"}.
+fn plain_entry(s: &[u8], at: usize) -> EntryAt
+    ensures { λ r. ⌜ (r .ok ≡ true → ReadsEntry (now (s .entry)) at r) ⌝ }
 {
-    let m = lookup::find_members(s, at, b"keyid", b"sig", b"", b"");
-    let first = m.first;
-    let second = m.second;
-    let end = m.end;
-    let keyid = forms::id_field(s, first);
-    if !keyid.ok {
+    let opening = b"{\"keyid\":\"";
+    let between = b"\",\"sig\":\"";
+    let closing = b"\"}";
+    if !base::has_at(s, at, opening) {
         return no_entry();
     }
-    let sig = forms::sig_field(s, second);
-    let id = keyid.id;
-    let bytes = sig.bytes;
+    let keyid = at + opening.len();
+    if !forms::has_digits(s, keyid, records::KEY) {
+        return no_entry();
+    }
+    let e = keyid + records::KEY * 2;
+    if !base::has_at(s, e, between) {
+        return no_entry();
+    }
+    let sig = e + between.len();
+    if !forms::has_digits(s, sig, records::SIGNATURE) {
+        return no_entry();
+    }
+    let f = sig + records::SIGNATURE * 2;
+    if !base::has_at(s, f, closing) {
+        return no_entry();
+    }
     EntryAt {
-        ok: sig.ok,
-        keyid: id,
-        sig: bytes,
-        end,
+        ok: true,
+        keyid,
+        sig,
+        end: Found::At(f + closing.len()),
     }
 }
 
-// An entry's keyid, and where the entry ends.
-pub struct KeyidAt {
-    pub ok: bool,
-    pub keyid: Id,
-    pub end: Found,
-}
-
-fn no_keyid() -> KeyidAt
-    ensures { λ r. ⌜ (viewKeyid r ≡ none) × (r .end ≡ Nothing) ⌝ }
-{
-    KeyidAt {
-        ok: false,
-        keyid: Id { bytes: [0u8; 32] },
-        end: Found::Nothing,
-    }
-}
-
-// "keyid", where "sig" has its form: its bytes are not asked for.
-fn keyid_at(s: &[u8], at: usize) -> KeyidAt
-    ensures { λ r. ⌜ Takes (now (s .entry)) at keyidOf (viewKeyid r) × KnownEnd (now (s .entry)) at (r .end) ⌝ }
+// The entry at `at`, whatever else it has: "keyid" and "sig".
+fn walked_entry(s: &[u8], at: usize) -> EntryAt
+    ensures { λ r. ⌜ ReadsEntry (now (s .entry)) at r ⌝ }
 {
     let m = lookup::find_members(s, at, b"keyid", b"sig", b"", b"");
     let first = m.first;
     let second = m.second;
     let end = m.end;
-    let read = forms::id_field(s, first);
-    if !read.ok {
-        return no_keyid();
+    match forms::digits_field(s, first, records::KEY) {
+        Found::Nothing => {
+            return no_entry();
+        }
+        Found::At(keyid) => match forms::digits_field(s, second, records::SIGNATURE) {
+            Found::Nothing => {
+                return no_entry();
+            }
+            Found::At(sig) => {
+                return EntryAt {
+                    ok: true,
+                    keyid,
+                    sig,
+                    end,
+                };
+            }
+        },
     }
-    let ok = forms::has_sig_field(s, second);
-    let keyid = read.id;
-    KeyidAt { ok, keyid, end }
+}
+
+pub fn entry_at(s: &[u8], at: usize) -> EntryAt
+    ensures { λ r. ⌜ ReadsEntry (now (s .entry)) at r ⌝ }
+{
+    let plain = plain_entry(s, at);
+    if plain.ok {
+        return plain;
+    }
+    walked_entry(s, at)
 }
 
 // The entries, and where they end.
@@ -150,11 +166,12 @@ pub fn entries_at(s: &[u8], at: usize) -> EntriesAt
                 if records::MAX_ENTRIES <= n {
                     return no_entries();
                 }
-                let entry = keyid_at(s, i);
+                let entry = entry_at(s, i);
                 if !entry.ok {
                     return no_entries();
                 }
-                let keyid = entry.keyid;
+                let read = forms::id_in(s, entry.keyid);
+                let keyid = read.id;
                 ids[n] = keyid;
                 n += 1;
                 let end = entry.end;

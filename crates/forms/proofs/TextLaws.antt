@@ -2,17 +2,17 @@
 use mathlib.Core.Path.{_≡_, refl, sym, ap, _∙_}
 use mathlib.Core.List.{[], _∷_, _++_, append-nil}
 use mathlib.Core.Option.{none, some}
-use mathlib.Core.Bool.{Bool, true, false, cond}
+use mathlib.Core.Bool.{Bool, true, false, cond, and-true, and-false}
 use Prim.Native.Nat.{ℕ, zero, suc, _+_, _-_, _*_, _<_}
 use native.Mathlib.Omega.{arith}
-use lib.Dec.{ltb}
+use lib.Dec.{eqb, ltb}
 use lib.ListN.{length, take, drop, take-append-drop}
-use lib.Seq.{take-all, drop-drop}
-use borrow.Author.Tests.{eq-eqb, ne-eqb, eqb-false, le-leb, ltb-true, ltb-false}
+use lib.Seq.{take-all, take-at, drop-drop, drop-at}
+use borrow.Author.Tests.{eq-eqb, ne-eqb, eqb-true, eqb-false, le-leb, ltb-true, ltb-false}
 use Rattle.base.specs.Bytes.{Bytes}
 use Rattle.base.specs.Window.{window, byteAt}
 use Rattle.base.specs.Hex.{digitOf, allHex, isHex, undo, Undone}
-use Rattle.base.proofs.TestLaws.{both}
+use Rattle.base.proofs.TestLaws.{both, same-test}
 use Rattle.base.proofs.PlaceLaws.{at-cons, at-end}
 use Rattle.base.proofs.HexLaws.{hex-range, not-long, hex-parts}
 use Rattle.base.proofs.WindowLaws.{window-part, byte-past}
@@ -23,12 +23,15 @@ use Rattle.json.specs.Fields.{keep}
 use Rattle.json.proofs.Rows.{found}
 use Rattle.json.proofs.Rfc.{to-rfc}
 use Rattle.lookup.specs.Leaves.{copied, Copies}
+use Rattle.lookup.specs.declared.Found.{Found}
+use Rattle.lookup.specs.declared.Found.the-variants.{At}
+use Rattle.lookup.proofs.StandsLaws.{there}
 use Rattle.lookup.proofs.StringLaws.{raw-bytes}
 use Rattle.date.specs.Calendar.{form, dateOf}
 use Rattle.date.proofs.FormLaws.{form-lengths}
 use Rattle.rules.specs.Take.{unhex}
-use Rattle.rules.proofs.OptionLaws.{none-not-some}
-use Rattle.forms.specs.View.{Fills}
+use Rattle.rules.proofs.OptionLaws.{none-not-some, kept-is}
+use Rattle.forms.specs.View.{Fills, digitsAt, HexAt}
 
 -- ## A buffer that is filled
 
@@ -142,24 +145,78 @@ unhex-plain n s i e l q zeros out ok z u k =
     let p : raw (drop i s) ≡ t = rw m (raw-hex s i (n * 2) q (rw m at h)) in
     unhex-undone n t zeros out ok z u ∙ ap (unhex n) (sym p)
 
--- the same where only the form is asked
-pub hex-plain : (n : ℕ) (s : Bytes) (i e : ℕ) → e ≡ i + n * 2 → byteAt s (i + n * 2) ≡ 34 → isHex n (take (e - i) (drop i s)) ≡ true → isHex n (raw (drop i s)) ≡ true
-hex-plain n s i e l q k =
-    let t = take (e - i) (drop i s) in
-    let m : e - i ≡ n * 2 = omega arith in
-    let h = hex-parts n t k .1 in
-    let p : raw (drop i s) ≡ t = rw m (raw-hex s i (n * 2) q (rw m at h)) in
-    ap (isHex n) p ∙ k
+-- ## Digits that are tested where they stand
 
-pub hex-kept : (n : ℕ) (b : Bool) (a t : Bytes) → keep b a ≡ unhex n t → b ≡ isHex n t
-unfolding unhex keep
-hex-kept n b a t e = go b (isHex n t) e
-  where
-    go : (b c : Bool) → keep b a ≡ keep c (undo t) → b ≡ c
-    go true true e = refl
-    go true false e = none-not-some (sym e)
-    go false true e = none-not-some e
-    go false false e = refl
+module _ (n : ℕ) (s : Bytes) (i : ℕ) where
+  pub no-digits : (byteAt s (i + n * 2) ≡ 34 → ⊥) → digitsAt n s i ≡ false
+  unfolding digitsAt
+  no-digits h = rw (ne-eqb (byteAt s (i + n * 2)) 34 h) (and-false (isHex n (take (n * 2) (drop i s))))
+
+  pub digits-past : length s < n * 2 → digitsAt n s i ≡ false
+  digits-past h = no-digits (λ e. let z = byte-past s (i + n * 2) (omega arith) in omega arith)
+
+  pub some-digits : byteAt s (i + n * 2) ≡ 34 → digitsAt n s i ≡ isHex n (take (n * 2) (drop i s))
+  unfolding digitsAt
+  some-digits h = rw (eq-eqb (byteAt s (i + n * 2)) 34 h) (and-true (isHex n (take (n * 2) (drop i s))))
+
+  module _ (d : digitsAt n s i ≡ true) where
+    parts : (isHex n (take (n * 2) (drop i s)) ≡ true) × (byteAt s (i + n * 2) ≡ 34)
+    unfolding digitsAt
+    parts = let w = both (isHex n (take (n * 2) (drop i s))) (eqb (byteAt s (i + n * 2)) 34) d in (w .0, eqb-true (byteAt s (i + n * 2)) 34 (w .1))
+
+    pub digits-within : i + n * 2 < length s
+    digits-within = quote-inside s i (n * 2) (parts .1)
+
+    pub digits-hex : allHex (take (n * 2) (drop i s)) ≡ true
+    digits-hex = hex-parts n (take (n * 2) (drop i s)) (parts .0) .1
+
+    pub digits-text : drop i s ≡ take (n * 2) (drop i s) ++ drop (i + n * 2) s
+    digits-text = sym (take-append-drop (n * 2) (drop i s)) ∙ ap (λ (x : Bytes). take (n * 2) (drop i s) ++ x) (drop-drop (n * 2) i s)
+
+    -- they are the string
+    pub digits-raw : raw (drop i s) ≡ take (n * 2) (drop i s)
+    digits-raw = raw-hex s i (n * 2) (parts .1) digits-hex
+
+    pub digits-is : isHex n (raw (drop i s)) ≡ true
+    digits-is = ap (isHex n) digits-raw ∙ parts .0
+
+  -- a string of digits is written as it is
+  module _ (q : Bytes) (t : drop i s ≡ putBytes (raw (drop i s)) (34 ∷ q)) (h : isHex n (raw (drop i s)) ≡ true) where
+    written : drop i s ≡ raw (drop i s) ++ (34 ∷ q)
+    written = t ∙ put-hex (raw (drop i s)) (34 ∷ q) (hex-parts n (raw (drop i s)) h .1)
+
+    long : length (raw (drop i s)) ≡ n * 2
+    long = hex-parts n (raw (drop i s)) h .0
+
+    closing : byteAt s (i + n * 2) ≡ 34
+    unfolding byteAt
+    closing =
+        let e : drop (i + n * 2) s ≡ 34 ∷ q = sym (drop-drop (n * 2) i s) ∙ ap (λ (x : Bytes). drop (n * 2) x) written ∙ drop-at (raw (drop i s)) (34 ∷ q) (n * 2) long in
+        there s (i + n * 2) 34 q e .1
+
+    stand-digits : digitsAt n s i ≡ true
+    stand-digits = some-digits closing ∙ ap (λ (x : Bytes). isHex n (take (n * 2) x)) written ∙ ap (isHex n) (take-at (raw (drop i s)) (34 ∷ q) (n * 2) long) ∙ h
+
+  -- so the test says of a string what the form says
+  pub digits-standing : (q : Bytes) → drop i s ≡ putBytes (raw (drop i s)) (34 ∷ q) → digitsAt n s i ≡ isHex n (raw (drop i s))
+  digits-standing q t = same-test (digitsAt n s i) (isHex n (raw (drop i s))) digits-is (stand-digits q t)
+
+module _ (n : ℕ) (t : Bytes) where
+  pub unhex-no : isHex n t ≡ false → none ≡ unhex n t
+  unfolding unhex keep
+  unhex-no h = rw h
+
+  pub unhex-yes : isHex n t ≡ true → some (undo t) ≡ unhex n t
+  unfolding unhex keep
+  unhex-yes h = rw h
+
+  -- digits of their form, undone
+  pub unhex-held : (ok : Bool) (a : Bytes) → keep ok a ≡ unhex n t → isHex n t ≡ true → a ≡ undo t
+  unhex-held ok a e h = kept-is ok a (e ∙ sym (unhex-yes h)) .1
+
+-- a place that was found
+pub hex-at : (n : ℕ) (s : Bytes) (r : Found) (i : ℕ) → r ≡ At i → HexAt n s r → isHex n (raw (drop i s)) ≡ true
+hex-at n s r i q h = rw q at h
 
 -- ## A date
 

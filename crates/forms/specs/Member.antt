@@ -3,13 +3,11 @@
 use mathlib.Core.Option.{Option}
 use Prim.Native.Nat.{ℕ}
 use Rattle.base.specs.Bytes.{Bytes}
-use Rattle.base.specs.Hex.{isHex}
 use Rattle.json.specs.Json.{Json}
-use Rattle.json.specs.Fields.{text, field, keep}
+use Rattle.json.specs.Fields.{field}
 use Rattle.lookup.specs.Place.{Finds, Takes}
 use Rattle.lookup.specs.declared.Found.{Found}
-use Rattle.rules.specs.Limits.{signatureSize}
-use Rattle.rules.specs.Take.{_>>=_, must, may}
+use Rattle.rules.specs.Take.{must, may}
 
 -- a member that must be there
 abbrev pub TakesMust : {A : Type 0} → Bytes → Found → (Json → Option A) → Option A → Type 0
@@ -18,7 +16,3 @@ TakesMust s found form o = (p : ℕ) (k : Bytes) → Finds s p (field k) found �
 -- a member that may be missing
 abbrev pub TakesMay : {A : Type 0} → Bytes → Found → (Json → Option A) → Option (Option A) → Type 0
 TakesMay s found form o = (p : ℕ) (k : Bytes) → Finds s p (field k) found → Takes s p (may k form) o
-
--- a signature, of which no more than its form is asked
-unfoldable pub signature : Json → Option (Unit {0})
-signature v = text v >>= λ b. keep (isHex signatureSize b) tt

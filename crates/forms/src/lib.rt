@@ -3,7 +3,6 @@
 ghost use mathlib.Core.Path.{_≡_};
 ghost use mathlib.Core.Option.{none};
 ghost use lib.ListN.{drop};
-ghost use Rattle.base.specs.Hex.{isHex};
 ghost use Rattle.json.specs.Read.{raw};
 ghost use Rattle.json.specs.Fields.{keep, number};
 ghost use Rattle.lookup.specs.Place.{Takes, KnownEnd};
@@ -14,8 +13,8 @@ ghost use Rattle.date.specs.View.{viewDate};
 ghost use Rattle.rules.specs.Limits.{keySize, signatureSize, maxVersion};
 ghost use Rattle.rules.specs.Take.{word, unhex, hex, date as dateForm};
 ghost use Rattle.rules.specs.Forms.{sha256, listed as listedForm};
-ghost use Rattle.forms.specs.Member.{signature, TakesMust, TakesMay};
-ghost use Rattle.forms.specs.View.{Fills, viewIdAt, viewSig, viewMayId, viewMayNumber, viewListedAt};
+ghost use Rattle.forms.specs.Member.{TakesMust, TakesMay};
+ghost use Rattle.forms.specs.View.{Fills, digitsAt, undoneAt, HexAt, viewIdAt, viewSig, viewMayId, viewMayNumber, viewListedAt};
 use base::Bytes64;
 use date::Date;
 use lookup::Found;
@@ -108,7 +107,7 @@ pub fn id_in(s: &[u8], i: usize) -> IdAt
 }
 
 // 128 digits.
-fn sig_in(s: &[u8], i: usize) -> Bytes64
+pub fn sig_in(s: &[u8], i: usize) -> Bytes64
     ensures { λ r. ⌜ viewSig r ≡ unhex signatureSize (raw (drop i (now (s .entry)))) ⌝ }
 {
     if base::byte_after(s, i, 128) != b'"' {
@@ -122,22 +121,6 @@ fn sig_in(s: &[u8], i: usize) -> Bytes64
     undone
 }
 
-// Whether there are 128 digits: for readers who do not ask for the signature.
-fn has_sig(s: &[u8], i: usize) -> bool
-    ensures { λ r. ⌜ r ≡ isHex signatureSize (raw (drop i (now (s .entry)))) ⌝ }
-{
-    if base::byte_after(s, i, 128) != b'"' {
-        let escaped = sig_escaped(s, i);
-        return escaped.ok;
-    }
-    let e = i + 128;
-    if base::is_hex(&s[i..e], 64) {
-        return true;
-    }
-    let undone = sig_escaped(s, i);
-    undone.ok
-}
-
 pub fn id_at(s: &[u8], at: usize) -> IdAt
     ensures { λ r. ⌜ Takes (now (s .entry)) at (hex keySize) (viewIdAt r) ⌝ }
 {
@@ -147,32 +130,6 @@ pub fn id_at(s: &[u8], at: usize) -> IdAt
         }
         Found::At(i) => {
             return id_in(s, i);
-        }
-    }
-}
-
-fn sig_at(s: &[u8], at: usize) -> Bytes64
-    ensures { λ r. ⌜ Takes (now (s .entry)) at (hex signatureSize) (viewSig r) ⌝ }
-{
-    match lookup::string_at(s, at) {
-        Found::Nothing => {
-            return no_sig();
-        }
-        Found::At(i) => {
-            return sig_in(s, i);
-        }
-    }
-}
-
-fn has_sig_at(s: &[u8], at: usize) -> bool
-    ensures { λ r. ⌜ Takes (now (s .entry)) at signature (keep r tt) ⌝ }
-{
-    match lookup::string_at(s, at) {
-        Found::Nothing => {
-            return false;
-        }
-        Found::At(i) => {
-            return has_sig(s, i);
         }
     }
 }
@@ -191,29 +148,49 @@ pub fn id_field(s: &[u8], found: Found) -> IdAt
     }
 }
 
-pub fn sig_field(s: &[u8], found: Found) -> Bytes64
-    ensures { λ r. ⌜ TakesMust (now (s .entry)) found (hex signatureSize) (viewSig r) ⌝ }
+// ---- Hex that is tested where it stands, and undone by who asks for it
+
+// Whether n bytes in hex stand at `i`, and a quote after them.
+pub fn has_digits(s: &[u8], i: usize, n: usize) -> bool
+    ensures { λ r. ⌜ r ≡ digitsAt n (now (s .entry)) i ⌝ }
 {
-    match found {
+    if s.len() / 2 < n {
+        return false;
+    }
+    let digits = n * 2;
+    if base::byte_after(s, i, digits) != b'"' {
+        return false;
+    }
+    let e = i + digits;
+    base::is_hex(&s[i..e], n)
+}
+
+// Where the digits begin, if the value at `at` is n bytes in hex. No digit is ever escaped, so that they stand there as they are.
+fn digits_at(s: &[u8], at: usize, n: usize) -> Found
+    ensures { λ r. ⌜ Takes (now (s .entry)) at (hex n) (undoneAt (now (s .entry)) r) × HexAt n (now (s .entry)) r ⌝ }
+{
+    match lookup::string_at(s, at) {
         Found::Nothing => {
-            return no_sig();
+            return Found::Nothing;
         }
-        Found::At(x) => {
-            return sig_at(s, x);
+        Found::At(i) => {
+            if !has_digits(s, i, n) {
+                return Found::Nothing;
+            }
+            return Found::At(i);
         }
     }
 }
 
-// Whether the member is a signature.
-pub fn has_sig_field(s: &[u8], found: Found) -> bool
-    ensures { λ r. ⌜ TakesMust (now (s .entry)) found signature (keep r tt) ⌝ }
+pub fn digits_field(s: &[u8], found: Found, n: usize) -> Found
+    ensures { λ r. ⌜ TakesMust (now (s .entry)) found (hex n) (undoneAt (now (s .entry)) r) × HexAt n (now (s .entry)) r ⌝ }
 {
     match found {
         Found::Nothing => {
-            return false;
+            return Found::Nothing;
         }
         Found::At(x) => {
-            return has_sig_at(s, x);
+            return digits_at(s, x, n);
         }
     }
 }

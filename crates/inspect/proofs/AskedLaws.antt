@@ -2,7 +2,7 @@
 use mathlib.Core.Path.{_≡_, refl, sym, ap, _∙_}
 use mathlib.Core.Option.{Option, none, some}
 use mathlib.Core.List.{List, []}
-use mathlib.Core.Bool.{Bool}
+use mathlib.Core.Bool.{Bool, true}
 use Prim.Native.Nat.{ℕ, zero, suc, min}
 use Rattle.base.specs.Bytes.{Bytes, bytes}
 use Rattle.json.specs.Json.{Json, Items, inil, icons}
@@ -64,6 +64,10 @@ entries-of v e h =
     let start = had _ _ (any .2) in
     es .1 ∙ ap (λ (x : Envelope). some (x .entries)) (some-is (start .2))
 
+-- an entry by its parts
+pub entry-of : (k l s t : Bytes) → k ≡ l → s ≡ t → theEntry (some (record { keyid = k; sig = s })) ≡ theEntry (some (record { keyid = l; sig = t }))
+entry-of k l s t e f = ap (λ (x : Bytes). theEntry (some (record { keyid = x; sig = s }))) e ∙ ap (λ (x : Bytes). theEntry (some (record { keyid = l; sig = x }))) f
+
 -- ## The answer
 
 module _ (file : Bytes) (place : ℕ) (o : Opened) (w : Opens file o (readEnvelope file)) where
@@ -101,11 +105,12 @@ module _ (file : Bytes) (place : ℕ) (o : Opened) (w : Opens file o (readEnvelo
               let k : nth place es ≡ none = rw n at (entry-nth v es e place) in
               rw k refl
 
-      pub asked-some : (x : ℕ) → r ≡ At x → (ok : Bool) (a : Entry) → Takes file x entry (keep ok a) → theEntry (some a) ≡ entryAt file place
-      asked-some x q ok a t = said (λ x. theEntry (some a) ≡ x) go
+      pub asked-some : (x : ℕ) → r ≡ At x → (ok : Bool) (a : Entry) → Takes file x entry (keep ok a) → (y : EntryAsked) → (ok ≡ true → y ≡ theEntry (some a)) → y ≡ entryAt file place
+      asked-some x q ok a t y z = said (λ x. y ≡ x) go
         where
-          go : (v : Json) → Stands file 0 v → (es : List Entry) → must (bytes "signatures") entries v ≡ some es → theEntry (some a) ≡ theEntry (nth place es)
+          go : (v : Json) → Stands file 0 v → (es : List Entry) → must (bytes "signatures") entries v ≡ some es → y ≡ theEntry (nth place es)
           go v h es e =
               let p : PlaceOf file (At x) (must (bytes "signatures") (elementAt place) v) = rw q at (f v h) in
               let k : Reads entry (some (p .0)) (nth place es) = rw (p .1) at (entry-nth v es e place) in
-              ap theEntry (ap some (kept-is ok a (t (p .0) (p .2) ∙ k .1) .1) ∙ sym (k .2))
+              let h = kept-is ok a (t (p .0) (p .2) ∙ k .1) in
+              z (h .0) ∙ ap theEntry (ap some (h .1) ∙ sym (k .2))

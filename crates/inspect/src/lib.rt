@@ -146,8 +146,10 @@ pub fn entry(file: &[u8], place: usize) -> EntryRead
         }
         Found::At(at) => {
             let read = envelope::entry_at(file, at);
-            let keyid = read.keyid;
-            let sig = read.sig;
+            let id = forms::id_in(file, read.keyid);
+            let signature = forms::sig_in(file, read.sig);
+            let keyid = id.id;
+            let sig = signature.bytes;
             return EntryRead {
                 answer: Answer::Accepted,
                 keyid,

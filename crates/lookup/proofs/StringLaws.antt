@@ -94,12 +94,36 @@ text-of s p (str b) h = rw (string-first s p (str b) h) (ap some (sym (ap raw (t
 text-of s p (arr xs) h = rw (string-first s p (arr xs) h) refl
 text-of s p (obj ms) h = rw (string-first s p (obj ms) h) refl
 
+-- the string's own text: its bytes as they are written, and the closing quote
+string-standing : (s : Bytes) (p i : ℕ) (v : Json) (h : Stands s p v) → stringIn p (drop p s) ≡ At i → drop i s ≡ putBytes (raw (drop i s)) (34 ∷ h .rest)
+string-standing s p i v h e = go v h
+  where
+    other : Nothing ≡ At i → {A : Type 0} → A
+    other k = let z : _≡_ {A = ℕ} 0 1 = cc in absurd (omega arith)
+
+    go : (v : Json) (h : Stands s p v) → drop i s ≡ putBytes (raw (drop i s)) (34 ∷ h .rest)
+    go jnull h = other (sym (string-first s p jnull h) ∙ e)
+    go jtrue h = other (sym (string-first s p jtrue h) ∙ e)
+    go jfalse h = other (sym (string-first s p jfalse h) ∙ e)
+    go (num true ds) h = other (sym (string-first s p (num true ds) h) ∙ e)
+    go (num false ds) h = other (sym (string-first s p (num false ds) h) ∙ e)
+    go (str b) h =
+        let k : At (p + 1) ≡ At i = sym (string-first s p (str b) h) ∙ e in
+        let n : p + 1 ≡ i = cc in
+        let t : drop i s ≡ putBytes b (34 ∷ h .rest) = ap (λ (x : ℕ). drop x s) (sym n) ∙ there s p 34 _ (h .text ∙ put-str b (h .rest)) .2 in
+        t ∙ ap (λ (x : Bytes). putBytes x (34 ∷ h .rest)) (sym (ap raw t ∙ raw-bytes b (h .rest)))
+    go (arr xs) h = other (sym (string-first s p (arr xs) h) ∙ e)
+    go (obj ms) h = other (sym (string-first s p (obj ms) h) ∙ e)
+
 module _ (s : Bytes) (p : ℕ) (v : Json) (h : Stands s p v) (r : Found) (q : r ≡ stringIn p (drop p s)) where
   pub no-text : r ≡ Nothing → text v ≡ none
   no-text e = let k : stringIn p (drop p s) ≡ Nothing = sym q ∙ e in rw k at (text-of s p v h)
 
   pub text-there : (i : ℕ) → r ≡ At i → text v ≡ some (raw (drop i s))
   text-there i e = let k : stringIn p (drop p s) ≡ At i = sym q ∙ e in rw k at (text-of s p v h)
+
+  pub string-text : (i : ℕ) → r ≡ At i → drop i s ≡ putBytes (raw (drop i s)) (34 ∷ h .rest)
+  string-text i e = string-standing s p i v h (sym q ∙ e)
 
 -- ## Comparison with a name, one byte at a time: the string goes on at a, the name at j
 

@@ -26,6 +26,10 @@ pub const MAX_PATH: usize = 128;
 
 pub const DIGEST: usize = 32;
 
+pub const KEY: usize = 32;
+
+pub const SIGNATURE: usize = 64;
+
 // A keyid, a public key or a digest.
 #[repr(C)]
 pub struct Id {

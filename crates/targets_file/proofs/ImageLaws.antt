@@ -17,13 +17,12 @@ use Rattle.json.specs.Read.{raw}
 use Rattle.json.specs.Fields.{members, field, count, keep, number}
 use Rattle.lookup.specs.Place.{Stands, Takes}
 use Rattle.lookup.specs.Walk.{FirstMember, NextMember}
-use Rattle.lookup.specs.declared.Found.{Found as Place}
-use Rattle.lookup.specs.declared.Found.the-variants.{Nothing, At}
+use Rattle.lookup.specs.declared.Found.the-variants.{Nothing}
 use Rattle.lookup.proofs.StandsLaws.{known-none}
 use Rattle.lookup.specs.declared.Member.{Member}
 use Rattle.lookup.specs.declared.Member.the-variants as member
 use Rattle.rules.specs.Limits.{digestSize, maxLength, maxTargets, maxPath}
-use Rattle.rules.specs.Take.{_>>=_, must, unhex, nameOf, eachNamed}
+use Rattle.rules.specs.Take.{_>>=_, must, nameOf, eachNamed}
 use Rattle.rules.specs.Records.{Image}
 use Rattle.rules.specs.Forms.{sha256, image, images}
 use Rattle.rules.specs.Conditions.{imageOf}
@@ -32,10 +31,9 @@ use Rattle.rules.proofs.OptionLaws.{kept-is}
 use Rattle.records.specs.View.{viewId}
 use Rattle.forms.specs.Each.{eachMember}
 use Rattle.forms.proofs.EachLaws.{MembersWalk, members-first, members-none, members-over, members-full, members-broken, members-next}
-use Rattle.forms.proofs.TextLaws.{hex-kept}
 use Rattle.forms.proofs.ListedLaws.{keep-in}
 use Rattle.envelope.proofs.OpenLaws.{cut, held}
-use Rattle.targets_file.specs.View.{HexAt, description, described, viewImage, ReadsImage, ReadsNamed, listedImage, imageIn, viewImages}
+use Rattle.targets_file.specs.View.{description, described, viewImage, ReadsImage, ReadsNamed, listedImage, imageIn, viewImages}
 use Rattle.targets_file.specs.Pass.{withImage, OneMore}
 use Rattle.targets_file.specs.declared.ImageAt.{ImageAt}
 use Rattle.targets_file.specs.declared.ImagesAt.{ImagesAt}
@@ -57,23 +55,6 @@ module _ (v : Json) where
       → (o >>= λ d. some (found n d)) ≡ description v
   unfolding description bind
   description-is n e o f = rw (← e, ← f)
-
--- digits that were undone, or not
-module _ (n : ℕ) (ok : Bool) (a t : Bytes) (e : keep ok a ≡ unhex n t) where
-  pub unhex-cut : ok ≡ false → none ≡ unhex n t
-  unhex-cut q = sym (cut ok a q) ∙ e
-
-  pub unhex-hex : ok ≡ true → isHex n t ≡ true
-  unhex-hex q = sym (hex-kept n ok a t e) ∙ q
-
-  pub unhex-held : isHex n t ≡ true → (some (undo t) ≡ unhex n t) × (a ≡ undo t)
-  unfolding unhex
-  unhex-held h =
-      let k : unhex n t ≡ some (undo t) = held _ _ h in
-      (sym k, kept-is ok a (e ∙ k) .1)
-
-pub hex-at : (s : Bytes) (r : Place) (i : ℕ) → r ≡ At i → HexAt s r → isHex digestSize (raw (drop i s)) ≡ true
-hex-at s r i q h = rw q at h
 
 module _ (t : Bytes) (v : Json) where
   pub path-empty : length t < 1 → none ≡ image t v

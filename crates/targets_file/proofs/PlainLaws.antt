@@ -3,16 +3,15 @@ use mathlib.Core.Path.{_≡_, refl, sym, ap, _∙_}
 use mathlib.Core.List.{[], _∷_, _++_}
 use mathlib.Core.Option.{some, bind}
 use mathlib.Core.Bool.{true, false}
-use Prim.Native.Nat.{ℕ, _+_, _-_, _<_}
+use Prim.Native.Nat.{ℕ, _+_, _-_, _*_, _<_}
 use Prim.Native.Char.{code}
 use native.Mathlib.Omega.{arith}
-use lib.ListN.{length, take, drop, getD, length-drop, length-append, take-append-drop}
+use lib.ListN.{length, take, drop, getD, length-drop, length-append}
 use lib.Seq.{drop-drop, drop-at}
 use Rattle.base.specs.Bytes.{Bytes, bytes, same, less}
 use Rattle.base.specs.Hex.{isHex, allHex, undo}
 use Rattle.base.proofs.TestLaws.{never}
 use Rattle.base.proofs.PlaceLaws.{at-cons}
-use Rattle.base.proofs.HexLaws.{hex-parts}
 use Rattle.json.specs.Lead.{wf, leadOf}
 use Rattle.json.specs.Json.{num, str, obj, Members, mnil, mcons, put, putBytes, Valid, ValidMembers, validNum, maxDepth}
 use Rattle.json.specs.Read.{Got, bad, got, endOf, number, read, raw}
@@ -28,11 +27,11 @@ use Rattle.lookup.specs.declared.Found.the-variants.{At}
 use Rattle.lookup.specs.Leaves.{numberIn}
 use Rattle.lookup.proofs.NumberLaws.{number-of}
 use Rattle.lookup.proofs.StandsLaws.{known-as, takes-of, ends-of}
-use Rattle.lookup.proofs.StringLaws.{raw-bytes}
 use Rattle.rules.specs.Limits.{digestSize, maxLength}
 use Rattle.rules.specs.Take.{must, hex, unhex}
 use Rattle.rules.specs.Forms.{sha256}
-use Rattle.forms.proofs.TextLaws.{put-hex, hex-valid}
+use Rattle.forms.specs.View.{digitsAt}
+use Rattle.forms.proofs.TextLaws.{put-hex, hex-valid, digits-hex, digits-text, digits-raw, digits-is}
 use Rattle.targets_file.specs.View.{description, described, ReadsImage}
 use Rattle.targets_file.specs.Plain.{plainImage, opening, between, PlainLength}
 use Rattle.targets_file.specs.declared.ImageAt.{ImageAt}
@@ -107,37 +106,37 @@ plain-says : (hash written : Bytes) → isHex digestSize hash ≡ true → (n : 
 unfolding plainImage description must sha256 hex unhex field members lookup text keep bind same
 plain-says hash written h n e = rw (← e, h) refl
 
-module _ (s : Bytes) (p i e q : ℕ) (r : ImageAt) where
-  abbrev hash : Bytes
-  hash = take (e - i) (drop i s)
+module _ (s : Bytes) (p i q : ℕ) (r : ImageAt)
+    (before : drop p s ≡ opening ++ drop i s)
+    (digits : digitsAt digestSize s i ≡ true)
+    (after : drop (i + digestSize * 2) s ≡ between ++ drop q s)
+    (w : PlainLength s i q r) where
+  hash : Bytes
+  hash = take (digestSize * 2) (drop i s)
 
-  module _ (before : drop p s ≡ opening ++ drop i s) (digits : isHex digestSize hash ≡ true) (long : e ≡ i + 64) (ahead : p < q)
-      (after : drop e s ≡ between ++ drop q s) (ok : r .ok ≡ true) (w : PlainLength s i q r) where
-    all-hex : allHex hash ≡ true
-    all-hex = hex-parts digestSize hash digits .1
+  plain-read : read maxDepth (drop p s) ≡ got (plainImage hash (w .written)) (drop (w .past) s)
+  unfolding plainImage hash
+  plain-read =
+      let rest = drop (w .past) s in
+      let h = digits-hex digestSize s i digits in
+      let t : drop p s ≡ put (plainImage hash (w .written)) rest =
+      before
+      ∙ ap (λ (x : Bytes). opening ++ x) (digits-text digestSize s i digits ∙ ap (λ (x : Bytes). hash ++ x) (after ∙ ap (λ (x : Bytes). between ++ x) (w .text)))
+      ∙ sym (plain-text hash (w .written) rest h (w .valid)) in
+      ap (read maxDepth) t ∙ complete-object (plainMembers hash (w .written)) 7 rest (plain-valid hash (w .written) rest h (w .valid))
 
-    split : drop i s ≡ hash ++ drop e s
-    split =
-        let m : i + (e - i) ≡ e = omega arith in
-        sym (take-append-drop (e - i) (drop i s)) ∙ ap (λ (x : Bytes). take (e - i) (drop i s) ++ x) (drop-drop (e - i) i s ∙ ap (λ (n : ℕ). drop n s) m)
-
-    plain-read : read maxDepth (drop p s) ≡ got (plainImage hash (w .written)) (drop (w .past) s)
-    unfolding plainImage
-    plain-read =
-        let rest = drop (w .past) s in
-        let t : drop p s ≡ put (plainImage hash (w .written)) rest =
-        before ∙ ap (λ (x : Bytes). opening ++ x) (split ∙ ap (λ (x : Bytes). hash ++ x) (after ∙ ap (λ (x : Bytes). between ++ x) (w .text)))
-        ∙ sym (plain-text hash (w .written) rest all-hex (w .valid)) in
-        ap (read maxDepth) t ∙ complete-object (plainMembers hash (w .written)) 7 rest (plain-valid hash (w .written) rest all-hex (w .valid))
-
-    -- the string at i is the digits
-    plain-raw : raw (drop i s) ≡ hash
-    plain-raw = ap raw (split ∙ ap (λ (x : Bytes). hash ++ x) after ∙ sym (put-hex hash _ all-hex)) ∙ raw-bytes hash _
-
-    pub plain-image : ReadsImage s p r
-    unfolding described keep
-    plain-image = record {
-      means = rw ok (takes-of s p _ _ plain-read description _ (ap (λ (d : ℕ). some (record { length = r .length; digest = undo (raw (drop d s)) })) (w .digest) ∙ ap (λ (x : Bytes). some (record { length = r .length; digest = undo x })) plain-raw ∙ plain-says hash (w .written) digits (r .length) (w .is)));
-      digits = λ _. ap (λ (d : ℕ). isHex digestSize (raw (drop d s))) (w .digest) ∙ ap (isHex digestSize) plain-raw ∙ digits;
-      end = known-as s p _ _ (w .end) (ends-of s p _ _ plain-read (w .past) refl (let a = w .within .0 in omega arith) (w .within .1));
-    }
+  pub plain-image : r .ok ≡ true → p < q → ReadsImage s p r
+  unfolding described keep hash
+  plain-image ok ahead =
+      let d = digits-raw digestSize s i digits in
+      let is = digits-is digestSize s i digits in
+      record {
+        means =
+            rw ok
+            (takes-of s p _ _ plain-read description _
+            (ap (λ (n : ℕ). some (record { length = r .length; digest = undo (raw (drop n s)) })) (w .digest)
+            ∙ ap (λ (x : Bytes). some (record { length = r .length; digest = undo x })) d
+            ∙ plain-says hash (w .written) (ap (isHex digestSize) (sym d) ∙ is) (r .length) (w .is)));
+        digits = λ _. ap (λ (n : ℕ). isHex digestSize (raw (drop n s))) (w .digest) ∙ is;
+        end = known-as s p _ _ (w .end) (ends-of s p _ _ plain-read (w .past) refl (let a = w .within .0 in omega arith) (w .within .1));
+      }

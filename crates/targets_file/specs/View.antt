@@ -2,7 +2,7 @@
 -- read for their form.
 use mathlib.Core.Path.{_≡_}
 use mathlib.Core.Bool.{true}
-use mathlib.Core.Option.{Option, none, some}
+use mathlib.Core.Option.{Option, some}
 use mathlib.Core.List.{List}
 use Prim.Native.Nat.{ℕ}
 use lib.IntN.{ℤ}
@@ -13,8 +13,6 @@ use Rattle.json.specs.Json.{Json}
 use Rattle.json.specs.Read.{raw}
 use Rattle.json.specs.Fields.{keep, number}
 use Rattle.lookup.specs.Place.{Takes, KnownEnd}
-use Rattle.lookup.specs.declared.Found.{Found as Place}
-use Rattle.lookup.specs.declared.Found.the-variants.{Nothing, At}
 use Rattle.rules.specs.Limits.{digestSize, maxLength}
 use Rattle.rules.specs.Take.{_>>=_, must}
 use Rattle.rules.specs.Records.{Image, File, Read}
@@ -28,16 +26,6 @@ use Rattle.targets_file.specs.declared.ImagesAt.{ImagesAt}
 use Rattle.targets_file.specs.declared.TargetsRead.{TargetsRead}
 
 -- ## An image
-
--- digits that stand at a place, undone
-unfoldable pub undoneAt : Bytes → Place → Option Bytes
-undoneAt s Nothing = none
-undoneAt s (At i) = some (undo (raw (drop i s)))
-
--- a place that is handed back is that of a digest's digits
-abbrev pub HexAt : Bytes → Place → Type 0
-HexAt s Nothing = Unit {0}
-HexAt s (At i) = isHex digestSize (raw (drop i s)) ≡ true
 
 -- what an image says besides its name: "length and hashes as above, both required"
 unfoldable pub description : Json → Option Found

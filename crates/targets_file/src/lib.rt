@@ -4,12 +4,14 @@ ghost use mathlib.Core.Bool.{true, false};
 ghost use mathlib.Core.Option.{none, some};
 ghost use Rattle.lookup.specs.Place.{Takes, KnownEnd, FoundEnd};
 ghost use Rattle.lookup.specs.declared.Found.the-variants.{Nothing, At};
+ghost use Rattle.rules.specs.Limits.{digestSize};
 ghost use Rattle.rules.specs.Forms.{sha256, images as imagesForm};
 ghost use Rattle.rules.specs.State.{kept, targetsIn};
+ghost use Rattle.forms.specs.View.{undoneAt, HexAt};
 ghost use Rattle.forms.specs.Member.{TakesMust};
 ghost use Rattle.targets_file.specs.Plain.{PlainLength};
 ghost use Rattle.targets_file.specs.Pass.{OneMore};
-ghost use Rattle.targets_file.specs.View.{undoneAt, HexAt, ReadsImage, ReadsNamed, imageIn, viewImages, seen, viewTargetsRead};
+ghost use Rattle.targets_file.specs.View.{ReadsImage, ReadsNamed, imageIn, viewImages, seen, viewTargetsRead};
 use date::Time;
 use json::Skip;
 use lookup::Found;
@@ -39,7 +41,8 @@ fn no_image() -> ImageAt
     }
 }
 
-// The image at `at` if it has no members but "hashes" and "length", and no hash but "sha256". Names rise, so that it has one text only.
+// The image at `at` if it has no members but "hashes" and "length", and no hash but "sha256". Names rise, so that it has one text only:
+// {"hashes":{"sha256":"digits"},"length":number}.
 fn plain_image(s: &[u8], at: usize) -> ImageAt
     ensures { λ r. ⌜ (r .ok ≡ true → ReadsImage (now (s .entry)) at r) ⌝ }
 {
@@ -49,15 +52,11 @@ fn plain_image(s: &[u8], at: usize) -> ImageAt
         return no_image();
     }
     let digest = at + opening.len();
-    let digits = records::DIGEST * 2;
-    if s.len() - digest < digits {
+    if !forms::has_digits(s, digest, records::DIGEST) {
         return no_image();
     }
-    let e = digest + digits;
+    let e = digest + records::DIGEST * 2;
     if !base::has_at(s, e, between) {
-        return no_image();
-    }
-    if !base::is_hex(&s[digest..e], records::DIGEST) {
         return no_image();
     }
     plain_length(s, digest, e + between.len())
@@ -97,29 +96,16 @@ fn plain_length(s: &[u8], digest: usize, at: usize) -> ImageAt
 
 // Where the digits of the "sha256" of the hashes stand.
 fn digest_place(s: &[u8], hashes: Found) -> Found
-    ensures { λ r. ⌜ TakesMust (now (s .entry)) hashes sha256 (undoneAt (now (s .entry)) r) × HexAt (now (s .entry)) r ⌝ }
+    ensures { λ r. ⌜ TakesMust (now (s .entry)) hashes sha256 (undoneAt (now (s .entry)) r) × HexAt digestSize (now (s .entry)) r ⌝ }
 {
     match hashes {
         Found::Nothing => {
             return Found::Nothing;
         }
-        Found::At(h) => match lookup::find_member(s, h, b"sha256") {
-            Found::Nothing => {
-                return Found::Nothing;
-            }
-            Found::At(x) => match lookup::string_at(s, x) {
-                Found::Nothing => {
-                    return Found::Nothing;
-                }
-                Found::At(i) => {
-                    let undone = forms::id_in(s, i);
-                    if !undone.ok {
-                        return Found::Nothing;
-                    }
-                    return Found::At(i);
-                }
-            },
-        },
+        Found::At(h) => {
+            let found = lookup::find_member(s, h, b"sha256");
+            return forms::digits_field(s, found, records::DIGEST);
+        }
     }
 }
 

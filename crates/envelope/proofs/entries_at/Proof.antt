@@ -12,14 +12,15 @@ use Rattle.lookup.specs.Place.{Stands}
 use Rattle.lookup.proofs.StandsLaws.{known-none}
 use Rattle.lookup.proofs.ItemLaws.{ahead, ahead-less}
 use Rattle.lookup.proofs.EndLaws as end
-use Rattle.rules.specs.Limits.{maxEntries}
+use Rattle.rules.specs.Limits.{maxEntries, keySize}
 use Rattle.records.specs.View.{viewId, noId, viewEntries}
+use Rattle.forms.specs.View.{viewIdAt}
 use Rattle.forms.specs.Each.{eachItem}
 use Rattle.forms.proofs.EachLaws.{ItemsWalk, items-first, items-none, items-over, items-full, items-broken, items-next}
+use Rattle.forms.proofs.TextLaws.{unhex-held}
 use Rattle.forms.proofs.ArrayLaws.{front, front-none, front-more, front-firsts}
-use Rattle.envelope.specs.Header.{keyidOf, viewKeyid, viewEntriesAt}
-use Rattle.envelope.proofs.OpenLaws.{cut, held}
-use Rattle.envelope.proofs.EntryLaws.{keyids-each}
+use Rattle.envelope.specs.Header.{keyidOf, viewEntriesAt}
+use Rattle.envelope.proofs.EntryLaws.{keyid-broken, keyid-is, keyids-each}
 use Rattle.envelope.proofs.entries_at.Statement.{statement}
 use Rattle.envelope.proofs.entries_at.Tie as tie
 
@@ -54,23 +55,25 @@ returns c =
       known-none _ _ _ (c .no-entries .ensures .1),
     )
 
-keyid-at-requires : tie.Need-keyid-at-requires Inv-loop μ-loop
-keyid-at-requires c κs = search needs
+entry-at-requires : tie.Need-entry-at-requires Inv-loop μ-loop
+entry-at-requires c κs = search needs
 
 no-entries-requires-2 : tie.Need-no-entries-requires-2 Inv-loop μ-loop
 no-entries-requires-2 c κs = search needs
 
 returns-2 : tie.Need-returns-2 Inv-loop μ-loop
-unfolding viewKeyid
 returns-2 c =
     let s = c .before .before .before .before .before .before .before .before .before .before .before .args .s .now in
     let l = c .before .before .before .before .before .before .before .before .loop in (
       λ v h.
           c .no-entries2 .ensures .0
-          ∙ items-broken keyidOf 0 maxEntries s (l .e) (l .n) (front viewId noId (l .ids) (l .n)) _ (l .inv .3 v h) _ (c .before .before .before .before .before .before .e .given .1) (λ u k. sym (cut _ _ (not-true _ (c .before .if2 .taken))) ∙ c .before .before .before .keyid-at .ensures .0 u k)
+          ∙ items-broken keyidOf 0 maxEntries s (l .e) (l .n) (front viewId noId (l .ids) (l .n)) _ (l .inv .3 v h) _ (c .before .before .before .before .before .before .e .given .1) (λ u k. keyid-broken s (c .before .before .before .entry-at .result) u (c .before .before .before .entry-at .ensures .means u k) (not-true _ (c .before .if2 .taken)))
           ∙ sym (keyids-each v),
       known-none _ _ _ (c .no-entries2 .ensures .1),
     )
+
+id-in-requires : tie.Need-id-in-requires Inv-loop μ-loop
+id-in-requires c κs = search needs
 
 mul-ids : tie.Need-mul-ids Inv-loop μ-loop
 mul-ids c = search needs
@@ -86,23 +89,25 @@ next-element-by-requires c κs = search needs
 
 loop-less : tie.Need-loop-less Inv-loop μ-loop
 loop-less c =
-    let l = c .before .before .before .before .before .before .before .before .before .loop in
-    ahead-less (c .before .before .before .before .before .before .before .before .before .before .before .before .args .s .now) (l .e) _ (c .before .before .before .before .before .before .before .e .given .1) (c .next-element-by .result) (c .next-element-by .ensures .onward)
+    let l = c .before .before .before .before .before .before .before .before .before .before .loop in
+    ahead-less (c .before .before .before .before .before .before .before .before .before .before .before .before .before .args .s .now) (l .e) _ (c .before .before .before .before .before .before .before .before .e .given .1) (c .next-element-by .result) (c .next-element-by .ensures .onward)
 
 loop-again : tie.Need-loop-again Inv-loop μ-loop
-unfolding viewKeyid
+unfolding viewIdAt
 loop-again c =
-    let s = c .before .before .before .before .before .before .before .before .before .before .before .before .args .s .now in
-    let l = c .before .before .before .before .before .before .before .before .before .loop in
-    let q = c .before .before .before .before .before .before .before .e .given .1 in
-    let fits = c .before .before .before .before .before .if1 .left in
-    let n = c .next-element-by .ensures .means (c .before .before .before .before .keyid-at .ensures .1) in (
+    let s = c .before .before .before .before .before .before .before .before .before .before .before .before .before .args .s .now in
+    let l = c .before .before .before .before .before .before .before .before .before .before .loop in
+    let q = c .before .before .before .before .before .before .before .before .e .given .1 in
+    let fits = c .before .before .before .before .before .before .if1 .left in
+    let r = c .before .before .before .before .before .entry-at in
+    let ok = not-false (r .result .ok) (c .before .before .before .if2 .left) in
+    let n = c .next-element-by .ensures .means (r .ensures .end) in (
       omega (arith, fits),
       simp length-set (omega arith),
       end.items-next s _ (l .e) (l .inv .2) _ q _ n,
       λ v h.
           rw (front-more viewId noId (l .ids) (l .n) _ (omega (arith, fits)))
-          (items-next keyidOf 0 maxEntries s (l .e) (l .n) (front viewId noId (l .ids) (l .n)) _ (l .inv .3 v h) _ q _ (λ u k. sym (held _ _ (not-false _ (c .before .before .if2 .left))) ∙ c .before .before .before .before .keyid-at .ensures .0 u k) _ n),
+          (items-next keyidOf 0 maxEntries s (l .e) (l .n) (front viewId noId (l .ids) (l .n)) _ (l .inv .3 v h) _ q _ (λ u k. keyid-is s (r .result) u (r .ensures .means u k) ok _ (unhex-held keySize _ (c .before .before .id-in .result .ok) _ (c .before .before .id-in .ensures) (r .ensures .keyid ok))) _ n),
     )
 
 enum-told : tie.Need-enum-told Inv-loop μ-loop
@@ -146,9 +151,10 @@ entries-at-spec =
     enum-known-e
     no-entries-requires
     returns
-    keyid-at-requires
+    entry-at-requires
     no-entries-requires-2
     returns-2
+    id-in-requires
     mul-ids
     array-set-from-ids
     add-n

@@ -4,8 +4,10 @@ use mathlib.Core.Path.{sym, ap, _∙_}
 use mathlib.Core.Option.{bind}
 use Rattle.json.specs.Fields.{keep}
 use Rattle.lookup.specs.Leaves.{viewNumber}
-use Rattle.targets_file.specs.View.{undoneAt, described}
-use Rattle.targets_file.proofs.ImageLaws.{no-length, description-is, broken-image, hex-at}
+use Rattle.forms.specs.View.{undoneAt}
+use Rattle.forms.proofs.TextLaws.{hex-at}
+use Rattle.targets_file.specs.View.{described}
+use Rattle.targets_file.proofs.ImageLaws.{no-length, description-is, broken-image}
 use Rattle.targets_file.proofs.walked_image.Statement.{statement}
 use Rattle.targets_file.proofs.walked_image.Tie as tie
 
@@ -63,7 +65,7 @@ returns-3 : tie.Need-returns-3
 unfolding undoneAt described keep bind
 returns-3 c =
     let m = c .before .before .before .before .before .before .before .before .find-members .ensures in
-    record { means = λ v g. description-is v _ (ap viewNumber (sym (c .before .before .before .before .before .length .given .1)) ∙ c .before .before .before .before .before .before .before .number-field .ensures _ _ (m .first .means) v g) _ (ap (undoneAt _) (sym (c .before .digest .given .1)) ∙ c .before .before .before .digest-place .ensures .0 _ _ (m .second .means) v g); digits = λ _. hex-at _ _ _ (c .before .digest .given .1) (c .before .before .before .digest-place .ensures .1); end = m .end }
+    record { means = λ v g. description-is v _ (ap viewNumber (sym (c .before .before .before .before .before .length .given .1)) ∙ c .before .before .before .before .before .before .before .number-field .ensures _ _ (m .first .means) v g) _ (ap (undoneAt _) (sym (c .before .digest .given .1)) ∙ c .before .before .before .digest-place .ensures .0 _ _ (m .second .means) v g); digits = λ _. hex-at _ _ _ _ (c .before .digest .given .1) (c .before .before .before .digest-place .ensures .1); end = m .end }
 
 pub walked-image-spec : {M : Type 1} → statement M
 walked-image-spec =

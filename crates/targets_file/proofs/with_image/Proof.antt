@@ -6,8 +6,9 @@ use borrow.Author.Tests.{not-true, not-false}
 use Rattle.json.specs.Fields.{keep}
 use Rattle.base.specs.Bytes.{Bytes}
 use Rattle.forms.specs.View.{viewIdAt}
+use Rattle.forms.proofs.TextLaws.{unhex-held}
 use Rattle.targets_file.specs.View.{described, viewImages}
-use Rattle.targets_file.proofs.ImageLaws.{unhex-held, found-before, not-asked, found-now}
+use Rattle.targets_file.proofs.ImageLaws.{found-before, not-asked, found-now}
 use Rattle.targets_file.proofs.with_image.Statement.{statement}
 use Rattle.targets_file.proofs.with_image.Tie as tie
 
@@ -22,7 +23,7 @@ id-in-requires c κs = search needs
 
 returns-3 : tie.Need-returns-3
 unfolding described viewImages viewIdAt keep
-returns-3 c = λ o e h. rw (not-false (c .before .before .before .before .before .args .asked) (c .before .before .if2 .left)) (ap (λ (d : Bytes). some (some (record { length = c .before .before .before .before .before .args .image .length; digest = d }))) (unhex-held _ (c .before .id-in .result .ok) _ _ (c .before .id-in .ensures) h .1) ∙ found-now (c .before .before .before .before .before .args .all) o e _ (c .before .before .before .if1 .left))
+returns-3 c = λ o e h. rw (not-false (c .before .before .before .before .before .args .asked) (c .before .before .if2 .left)) (ap (λ (d : Bytes). some (some (record { length = c .before .before .before .before .before .args .image .length; digest = d }))) (unhex-held _ _ (c .before .id-in .result .ok) _ (c .before .id-in .ensures) h) ∙ found-now (c .before .before .before .before .before .args .all) o e _ (c .before .before .before .if1 .left))
 
 pub with-image-spec : {M : Type 1} → statement M
 with-image-spec = tie.close (tie.spec returns returns-2 id-in-requires returns-3)
