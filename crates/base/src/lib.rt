@@ -1,6 +1,6 @@
 // Byte strings: equality, windows by index, lower-case hex.
 ghost use mathlib.Core.Path.{_≡_};
-ghost use Prim.Native.Nat.{_+_, _*_, _≤_, _<_};
+ghost use Prim.Native.Nat.{_+_, _*_, _<_};
 ghost use lib.ListN.{length, take, drop, replicate};
 ghost use Rattle.base.specs.Bytes.{same as sameOf};
 ghost use Rattle.base.specs.Window.{byteAt, window};

@@ -11,7 +11,6 @@ use Rattle.base.specs.Window.{window}
 use Rattle.rules.specs.Limits.{signatureSize}
 use Rattle.rules.specs.Asked.{Look, EntryAsked}
 use Rattle.answers.specs.Number.{numberOf}
-use Rattle.answers.specs.declared.Answer.{Answer}
 use Rattle.records.specs.View.{viewId}
 use Rattle.inspect.specs.View as inspect
 use Rattle.inspect.specs.declared.Looked as inspect-looked

@@ -7,7 +7,6 @@ ghost use Rattle.json.specs.Json.{Canonical, maxDepth};
 ghost use Rattle.rules.specs.State.{blank as blankState, newCycle, newRoot, newTimestamp, newSnapshot, newTargets};
 ghost use Rattle.rules.specs.Steps.{Began};
 ghost use Rattle.rules.specs.Asked.{imageAnswer, look as lookInto, entryAt};
-ghost use Rattle.answers.specs.Number.{numberOf};
 ghost use Rattle.records.specs.View.{viewId};
 ghost use Rattle.state.specs.Told.{Tells};
 ghost use Rattle.tuf.specs.View.{view};

@@ -12,9 +12,8 @@ use borrow.Author.Tests.{ne-eqb}
 use Rattle.base.specs.Bytes.{Bytes}
 use Rattle.json.specs.Json.{Json}
 use Rattle.json.specs.Fields.{keep}
-use Rattle.lookup.specs.Place.{Stands, Takes}
+use Rattle.lookup.specs.Place.{Takes}
 use Rattle.rules.specs.Limits.{maxFile}
-use Rattle.rules.specs.Take.{_>>=_}
 use Rattle.rules.specs.Records.{File, Fault, tooLong, notText, badForm, otherSpec, Read, refused, says}
 use Rattle.rules.specs.Forms.{Envelope, envelope, knownSpec, fileOf}
 use Rattle.rules.specs.Reading.{parsed, judgedText, readWith, keyidsOf, opened, readEnvelope, known, spoken, inEnvelope, readAs}

@@ -30,7 +30,7 @@ use Rattle.lookup.proofs.StringLaws.{raw-bytes}
 use Rattle.date.specs.Calendar.{form, dateOf}
 use Rattle.date.proofs.FormLaws.{form-lengths}
 use Rattle.rules.specs.Take.{unhex}
-use Rattle.rules.proofs.OptionLaws.{none-not-some, kept-is}
+use Rattle.rules.proofs.OptionLaws.{kept-is}
 use Rattle.forms.specs.View.{Fills, digitsAt, HexAt}
 
 -- ## A buffer that is filled

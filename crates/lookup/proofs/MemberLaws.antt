@@ -7,13 +7,11 @@ use Prim.Native.Nat.{ℕ, suc, _≤_, _<_, _+_, _-_}
 use native.Mathlib.Omega.{arith}
 use lib.ListN.{length, drop, getD}
 use Rattle.base.specs.Bytes.{Bytes}
-use Rattle.json.specs.Json.{Json, jnull, jtrue, jfalse, num, str, arr, obj, Members, mnil, mcons, put, putStr, putBytes, putMoreMembers, Valid, ValidStr, ValidMembers, maxDepth}
-use Rattle.json.specs.Read.{Got, bad, got, endOf, also, read, readStr, kindOf, raw, NoDigit}
+use Rattle.json.specs.Json.{Json, jnull, jtrue, jfalse, num, str, arr, obj, Members, mnil, mcons, put, putStr, putBytes, putMoreMembers, Valid, ValidMembers, maxDepth}
+use Rattle.json.specs.Read.{read, raw, NoDigit}
 use Rattle.json.specs.Fields.{members}
 use Rattle.json.specs.declared.Skip.the-variants as skip
 use Rattle.json.proofs.Puts.{put-str, put-obj, members-nil, members-cons, more-members-nil, more-members-cons}
-use Rattle.json.proofs.Complete.{complete}
-use Rattle.json.proofs.Rest.{located, chars-fits, refused}
 use Rattle.lookup.specs.Place.{Stands, EndsAt, KnownEnd}
 use Rattle.lookup.specs.declared.Found.{Found}
 use Rattle.lookup.specs.declared.Found.the-variants.{Nothing, At}

@@ -1,8 +1,7 @@
 -- What each struct stands for in the paper's records. Every value of every field stands for something: a count above an array's size
 -- stands for that size.
-use mathlib.Core.Bool.{Bool, true, false, cond}
+use mathlib.Core.Bool.{Bool, false, cond}
 use mathlib.Core.List.{List, [], _∷_}
-use mathlib.Core.Option.{Option, none, some}
 use Prim.Native.Nat.{ℕ, suc, _/_, _%_, _^_, min}
 use lib.Dec.{eqb}
 use lib.ListN.{getD}

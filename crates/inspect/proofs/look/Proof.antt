@@ -1,7 +1,6 @@
 -- `look` meets its contract: refused with its file, or the part from its place to its end.
 use mathlib.Core.Path.{_≡_, _∙_}
 use native.Mathlib.Omega.{arith}
-use Rattle.rules.specs.Asked.{Look}
 use Rattle.lookup.proofs.StandsLaws.{place-after}
 use Rattle.inspect.specs.View.{viewLook}
 use Rattle.inspect.proofs.LookLaws.{look-refused, look-endless, look-is}

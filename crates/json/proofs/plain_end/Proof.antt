@@ -1,6 +1,5 @@
 -- `json::plain_end` meets its contract. The invariant: the string ends where it ends when it is read from `i` on.
-use mathlib.Core.Path.{_≡_, refl, _∙_}
-use mathlib.Core.Bool.{true}
+use mathlib.Core.Path.{_≡_, _∙_}
 use Prim.Native.Nat.{_-_}
 use native.Mathlib.Omega.{arith}
 use lib.ListN.{length, drop}

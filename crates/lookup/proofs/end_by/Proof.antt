@@ -1,6 +1,5 @@
 -- `end_by` meets its contract: a known end is the end, and any other is looked for.
 use borrow.Author.Needs.{needs}
-use mathlib.Core.Path.{sym, ap}
 use native.Mathlib.Omega.{arith}
 use Rattle.lookup.proofs.StandsLaws as stands
 use Rattle.lookup.proofs.end_by.Statement.{statement}

@@ -1,5 +1,4 @@
 -- `plain_run` meets its contract. The invariant: the string goes on plain up to `i`.
-use mathlib.Core.Path.{refl, _∙_}
 use Prim.Native.Nat.{_-_}
 use native.Mathlib.Omega.{arith}
 use borrow.Author.Needs.{needs}

@@ -1,5 +1,4 @@
 -- `ended` meets its contract.
-use borrow.Author.Needs.{needs}
 use mathlib.Core.Path.{refl}
 use Rattle.targets_file.specs.View.{viewImages}
 use Rattle.targets_file.proofs.ended.Statement.{statement}

@@ -1,5 +1,4 @@
 -- `no_images` meets its contract.
-use borrow.Author.Needs.{needs}
 use mathlib.Core.Path.{refl}
 use Rattle.json.specs.Fields.{keep}
 use Rattle.targets_file.specs.View.{viewImages}
