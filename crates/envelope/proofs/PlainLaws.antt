@@ -8,7 +8,7 @@ use lib.ListN.{length, take, drop}
 use Rattle.base.specs.Bytes.{Bytes, bytes, same, less}
 use Rattle.base.specs.Hex.{isHex, allHex, undo}
 use Rattle.json.specs.Lead.{wf, leadOf}
-use Rattle.json.specs.Json.{str, Members, mnil, mcons, put, putBytes, Valid, ValidMembers, maxDepth}
+use Rattle.json.specs.Json.{put, putBytes, Valid, maxDepth}
 use Rattle.json.specs.Read.{got, read, raw}
 use Rattle.json.specs.Fields.{field, members, lookup, text, keep}
 use Rattle.json.proofs.Rfc.{to-rfc}
@@ -24,17 +24,14 @@ use Rattle.envelope.specs.Header.{viewEntry, ReadsEntry}
 use Rattle.envelope.specs.Plain.{plainEntry, opening, between, closing}
 use Rattle.envelope.specs.declared.EntryAt.{EntryAt}
 
-abbrev plainMembers : Bytes → Bytes → Members
-plainMembers keyid sig = mcons (bytes "keyid") (str keyid) (mcons (bytes "sig") (str sig) mnil)
-
 module _ (keyid sig q : Bytes) (h : allHex keyid ≡ true) (k : allHex sig ≡ true) where
   plain-text : put (plainEntry keyid sig) q ≡ opening ++ (keyid ++ (between ++ (sig ++ (closing ++ q))))
   unfolding plainEntry put putBytes
   plain-text =
       ap (λ (x : Bytes). opening ++ x) (put-hex keyid _ h ∙ ap (λ (x : Bytes). keyid ++ (between ++ x)) (put-hex sig (closing ++ q) k))
 
-  plain-valid : ValidMembers (plainMembers keyid sig) 7
-  unfolding Valid wf leadOf less
+  plain-valid : Valid (plainEntry keyid sig) maxDepth
+  unfolding plainEntry Valid wf leadOf less
   plain-valid = (to-rfc (bytes "keyid") refl, hex-valid keyid h, (refl, to-rfc (bytes "sig") refl, hex-valid sig k, tt))
 
 -- what it says
@@ -64,7 +61,7 @@ module _ (s : Bytes) (p e : ℕ) (r : EntryAt)
       ∙ ap (λ (x : Bytes). opening ++ x) (digits-text keySize s (r .keyid) keyid ∙ ap (λ (x : Bytes). idText ++ x) (middle
       ∙ ap (λ (x : Bytes). between ++ x) (digits-text signatureSize s (r .sig) sig ∙ ap (λ (x : Bytes). sigText ++ x) after)))
       ∙ sym (plain-text idText sigText (drop e s) h k) in
-      ap (read maxDepth) t ∙ complete-object (plainMembers idText sigText) 7 (drop e s) (plain-valid idText sigText (drop e s) h k)
+      ap (read maxDepth) t ∙ complete-object _ maxDepth (drop e s) (plain-valid idText sigText (drop e s) h k)
 
   pub plain-entry : r .ok ≡ true → r .end ≡ At e → p < e → e ≤ length s → ReadsEntry s p r
   unfolding viewEntry keep idText sigText

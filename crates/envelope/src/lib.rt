@@ -116,6 +116,7 @@ fn walked_entry(s: &[u8], at: usize) -> EntryAt
     }
 }
 
+// "keyid" and "sig": the one text first, which is that of nearly every entry.
 pub fn entry_at(s: &[u8], at: usize) -> EntryAt
     ensures { λ r. ⌜ ReadsEntry (now (s .entry)) at r ⌝ }
 {

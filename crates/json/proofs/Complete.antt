@@ -141,6 +141,7 @@ mutual
       )
 
 -- an object ends by itself, whatever follows
-pub complete-object : (ms : Members) (d : ℕ) (r : Bytes) → ValidMembers ms d → read (suc d) (put (obj ms) r) ≡ got (obj ms) r
-unfolding kindOf
-complete-object ms d r g = rw (put-obj, read-with, complete-members ms d r g)
+pub complete-object : (ms : Members) (d : ℕ) (r : Bytes) → Valid (obj ms) d → read d (put (obj ms) r) ≡ got (obj ms) r
+unfolding Valid kindOf
+complete-object ms zero r g = absurd g
+complete-object ms (suc d) r g = rw (put-obj, read-with, complete-members ms d r g)

@@ -13,7 +13,7 @@ use Rattle.base.specs.Hex.{isHex, allHex, undo}
 use Rattle.base.proofs.TestLaws.{never}
 use Rattle.base.proofs.PlaceLaws.{at-cons}
 use Rattle.json.specs.Lead.{wf, leadOf}
-use Rattle.json.specs.Json.{num, str, obj, Members, mnil, mcons, put, putBytes, Valid, ValidMembers, validNum, maxDepth}
+use Rattle.json.specs.Json.{num, put, putBytes, Valid, validNum, maxDepth}
 use Rattle.json.specs.Read.{Got, bad, got, endOf, number, read, raw}
 use Rattle.json.specs.Fields as fields
 use Rattle.json.specs.Fields.{field, members, lookup, text, keep}
@@ -87,17 +87,13 @@ plain-length s i p e r x h b d n k =
 
 -- ## Its text
 
--- the members of that image
-abbrev plainMembers : Bytes → Bytes → Members
-plainMembers hash written = mcons (bytes "hashes") (obj (mcons (bytes "sha256") (str hash) mnil)) (mcons (bytes "length") (num false written) mnil)
-
 module _ (hash written q : Bytes) (h : allHex hash ≡ true) (v : validNum false written ≡ true) where
   plain-text : put (plainImage hash written) q ≡ opening ++ (hash ++ (between ++ (written ++ (code "}" ∷ q))))
   unfolding plainImage put putBytes
   plain-text = ap (λ (x : Bytes). opening ++ x) (put-hex hash (between ++ (written ++ (code "}" ∷ q))) h)
 
-  plain-valid : ValidMembers (plainMembers hash written) 7
-  unfolding Valid wf leadOf less
+  plain-valid : Valid (plainImage hash written) maxDepth
+  unfolding plainImage Valid wf leadOf less
   plain-valid = (to-rfc (bytes "hashes") refl, (to-rfc (bytes "sha256") refl, hex-valid hash h, tt), (refl, to-rfc (bytes "length") refl, v, tt))
 
 -- what it says
@@ -123,7 +119,7 @@ module _ (s : Bytes) (p i q : ℕ) (r : ImageAt)
       before
       ∙ ap (λ (x : Bytes). opening ++ x) (digits-text digestSize s i digits ∙ ap (λ (x : Bytes). hash ++ x) (after ∙ ap (λ (x : Bytes). between ++ x) (w .text)))
       ∙ sym (plain-text hash (w .written) rest h (w .valid)) in
-      ap (read maxDepth) t ∙ complete-object (plainMembers hash (w .written)) 7 rest (plain-valid hash (w .written) rest h (w .valid))
+      ap (read maxDepth) t ∙ complete-object _ maxDepth rest (plain-valid hash (w .written) rest h (w .valid))
 
   pub plain-image : r .ok ≡ true → p < q → ReadsImage s p r
   unfolding described keep hash
