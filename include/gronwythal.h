@@ -13,8 +13,9 @@
  * length 0 only.
  *
  * A verdict row has one byte for each signature entry of the file, in file order: 1 if the entry's signature verifies over the signed part
- * under the key of its keyid, else 0; so it is 0 where no such key is known. Checking signatures is the caller's, and so are digests, which
- * are SHA-256 of a whole file: gw_signed_part, gw_entry_at and gw_key give what a check needs. See examples/c for a whole controller.
+ * under the key of its keyid, else 0; so it is 0 where no such key is known. Checking signatures is the caller's: gw_signed_part,
+ * gw_entry_at and gw_key give what a check needs. Digests are SHA-256. Those of metadata files are computed inside; that of a fetched image
+ * is an argument, and gw_sha256 computes it. See examples/c for a whole controller.
  */
 #ifndef GRONWYTHAL_H
 #define GRONWYTHAL_H
@@ -37,8 +38,9 @@ extern "C" {
 #define GW_ID_SIZE 32          /* bytes of a keyid, a public key or a digest */
 #define GW_SIGNATURE_SIZE 64   /* bytes of a signature */
 
-/* ---- Answers: the lowest number whose condition holds, of those that the call uses; 0 if none. Each call below says in brackets which
-   refusals it uses. A call that does not answer GW_ACCEPTED has changed nothing, but for gw_install. */
+/* ---- Answers: the lowest number whose condition holds, of those that the call uses; 0 if none. Only GW_OTHER_KEYID is out of this order:
+   it is tried between 3 and 4. Each call below says in brackets which refusals it uses. A call that does not answer GW_ACCEPTED has
+   changed nothing, but for gw_install. */
 
 typedef enum gw_answer {
     GW_ACCEPTED = 0,
@@ -46,7 +48,7 @@ typedef enum gw_answer {
     GW_NOT_TEXT = 2,       /* not canonical JSON text, empty input included */
     GW_BAD_FORM = 3,       /* a member is missing, or has not its form */
     GW_OTHER_SPEC = 4,     /* spec_version is neither 1 nor begins with 1. */
-    GW_BAD_ARGUMENT = 5,   /* a verdict row of another length than the entries, a verdict not 0 or 1, a digest not 32 bytes */
+    GW_BAD_ARGUMENT = 5,   /* a verdict row of another length than the entries, a verdict not 0 or 1; an image's digest not 32 bytes */
     GW_NOT_HELD = 6,       /* a record that the step needs is not held, or not current */
     GW_HELD_EXPIRED = 7,   /* a record that the step leans on has expired */
     GW_OTHER_CONTENT = 8,  /* length or digest differs from what is listed */
@@ -56,7 +58,8 @@ typedef enum gw_answer {
     GW_NO_NEWS = 12,       /* same timestamp version: normal, no news; go on with what is held */
     GW_WENT_BACK = 13,     /* a listed version went back, or a name vanished */
     GW_FILE_EXPIRED = 14,  /* the offered file has expired */
-    GW_NOT_LISTED = 15     /* not listed */
+    GW_NOT_LISTED = 15,    /* not listed */
+    GW_OTHER_KEYID = 16    /* a keyid in a key table is not the digest of its key */
 } gw_answer;
 
 /* ---- Values */
@@ -82,6 +85,11 @@ typedef struct gw_image {
     uint64_t length;
     uint8_t digest[GW_ID_SIZE];
 } gw_image;
+
+/* A SHA-256 digest. */
+typedef struct gw_digest {
+    uint8_t bytes[GW_ID_SIZE];
+} gw_digest;
 
 /* A held root's public key, Ed25519: zeros where it is refused. */
 typedef struct gw_public_key {
@@ -132,6 +140,7 @@ GW_SIZE_IS_(bool, 1);
 GW_SIZE_IS_(gw_state, GW_STATE_SIZE);
 GW_SIZE_IS_(gw_step, GW_STATE_SIZE + 8);
 GW_SIZE_IS_(gw_image, 48);
+GW_SIZE_IS_(gw_digest, 32);
 GW_SIZE_IS_(gw_public_key, 33);
 GW_SIZE_IS_(gw_look, 32);
 GW_SIZE_IS_(gw_entry, 97);
@@ -147,14 +156,12 @@ gw_step gronwythal_new_cycle(gw_state state, int64_t start);
 gw_step gronwythal_root(gw_state state, const uint8_t *file, size_t file_len, const uint8_t *held_row, size_t held_row_len,
                         const uint8_t *own_row, size_t own_row_len);
 gw_step gronwythal_timestamp(gw_state state, const uint8_t *file, size_t file_len, const uint8_t *row, size_t row_len);
-gw_step gronwythal_snapshot(gw_state state, const uint8_t *file, size_t file_len, const uint8_t *row, size_t row_len,
-                            const uint8_t *digest, size_t digest_len);
-gw_step gronwythal_targets(gw_state state, const uint8_t *file, size_t file_len, const uint8_t *row, size_t row_len,
-                           const uint8_t *digest, size_t digest_len);
-gw_image gronwythal_find(gw_state state, const uint8_t *file, size_t file_len, const uint8_t *digest, size_t digest_len,
-                         const uint8_t *path, size_t path_len);
+gw_step gronwythal_snapshot(gw_state state, const uint8_t *file, size_t file_len, const uint8_t *row, size_t row_len);
+gw_step gronwythal_targets(gw_state state, const uint8_t *file, size_t file_len, const uint8_t *row, size_t row_len);
+gw_image gronwythal_find(gw_state state, const uint8_t *file, size_t file_len, const uint8_t *path, size_t path_len);
 gw_public_key gronwythal_key(gw_state state, const uint8_t *keyid, size_t keyid_len);
 gw_versions gronwythal_versions(gw_state state);
+gw_digest gronwythal_sha256(const uint8_t *bytes, size_t bytes_len);
 uint8_t gronwythal_check_image(uint64_t listed, const uint8_t *digest, size_t digest_len, uint64_t fetched, const uint8_t *hash,
                                size_t hash_len);
 gw_look gronwythal_look(const uint8_t *file, size_t file_len);
@@ -182,8 +189,8 @@ static inline void gw_blank(gw_state *state)
 }
 
 /*
- * The root from the factory, judged by its own root role (1 to 5, 10): one row, of verdicts under the keys that the file itself lists. It
- * begins a new history: what `state` held is gone, and after a refusal it is the blank state. Expiry does not matter here.
+ * The root from the factory, judged by its own root role (1 to 5, 10, 16): one row, of verdicts under the keys that the file itself lists.
+ * It begins a new history: what `state` held is gone, and after a refusal it is the blank state. Expiry does not matter here.
  */
 static inline gw_answer gw_install(gw_state *state, const uint8_t *file, size_t file_len, const uint8_t *row, size_t row_len,
                                    int64_t start)
@@ -200,9 +207,9 @@ static inline gw_answer gw_new_cycle(gw_state *state, int64_t start)
 }
 
 /*
- * The next root (1 to 6, 9, 10, 11), whose version is the held one plus one: the verdicts under the held root's keys, and those under the
- * keys that the file itself lists. Offer each root in turn until there is none. One that changes the set of keys of timestamp or snapshot
- * drops those records and targets; one that changes that of targets alone drops targets.
+ * The next root (1 to 6, 9, 10, 11, 16), whose version is the held one plus one: the verdicts under the held root's keys, and those under
+ * the keys that the file itself lists. Offer each root in turn until there is none. One that changes the set of keys of timestamp or
+ * snapshot drops those records and targets; one that changes that of targets alone drops targets.
  */
 static inline gw_answer gw_root(gw_state *state, const uint8_t *file, size_t file_len, const uint8_t *held_row,
                                 size_t held_row_len, const uint8_t *own_row, size_t own_row_len)
@@ -219,31 +226,38 @@ static inline gw_answer gw_timestamp(gw_state *state, const uint8_t *file, size_
     return gw_stored_(state, &step);
 }
 
-/* A snapshot, with its digest of 32 bytes (1 to 9, 11, 13, 14): the one that the held timestamp lists. */
-static inline gw_answer gw_snapshot(gw_state *state, const uint8_t *file, size_t file_len, const uint8_t *row, size_t row_len,
-                                    const uint8_t *digest, size_t digest_len)
+/* A snapshot (1 to 9, 11, 13, 14): the one that the held timestamp lists. */
+static inline gw_answer gw_snapshot(gw_state *state, const uint8_t *file, size_t file_len, const uint8_t *row, size_t row_len)
 {
-    gw_step step = gronwythal_snapshot(*state, gw_lent_(file), file_len, gw_lent_(row), row_len, gw_lent_(digest), digest_len);
+    gw_step step = gronwythal_snapshot(*state, gw_lent_(file), file_len, gw_lent_(row), row_len);
     return gw_stored_(state, &step);
 }
 
-/* A targets file, with its digest of 32 bytes (1 to 9, 11, 14): the one that the held snapshot lists. Keep it: gw_find asks for it. */
-static inline gw_answer gw_targets(gw_state *state, const uint8_t *file, size_t file_len, const uint8_t *row, size_t row_len,
-                                   const uint8_t *digest, size_t digest_len)
+/* A targets file (1 to 9, 11, 14): the one that the held snapshot lists. Keep it: gw_find asks for it. */
+static inline gw_answer gw_targets(gw_state *state, const uint8_t *file, size_t file_len, const uint8_t *row, size_t row_len)
 {
-    gw_step step = gronwythal_targets(*state, gw_lent_(file), file_len, gw_lent_(row), row_len, gw_lent_(digest), digest_len);
+    gw_step step = gronwythal_targets(*state, gw_lent_(file), file_len, gw_lent_(row), row_len);
     return gw_stored_(state, &step);
 }
 
 /*
- * The length and digest of an image (1 to 8, 15). The file is the targets file that was accepted, and its digest is the caller's anew: by
- * it the file is known again. The path is the name in that file, with its escapes undone, and no null byte behind it.
+ * The length and digest of an image (1 to 4, 6 to 8, 15). The file is the targets file that was accepted; another is refused, by its
+ * digest. The path is the name in that file, with its escapes undone, and no null byte behind it.
  */
-static inline gw_answer gw_find(const gw_state *state, const uint8_t *file, size_t file_len, const uint8_t *digest,
-                                size_t digest_len, const uint8_t *path, size_t path_len, gw_image *image)
+static inline gw_answer gw_find(const gw_state *state, const uint8_t *file, size_t file_len, const uint8_t *path, size_t path_len,
+                                gw_image *image)
 {
-    *image = gronwythal_find(*state, gw_lent_(file), file_len, gw_lent_(digest), digest_len, gw_lent_(path), path_len);
+    *image = gronwythal_find(*state, gw_lent_(file), file_len, gw_lent_(path), path_len);
     return (gw_answer)image->answer;
+}
+
+/*
+ * SHA-256 of the lent bytes: a fetched image's digest, for gw_check_image. They are lent in one piece; a controller that fetches an image
+ * in several needs a SHA-256 of its own.
+ */
+static inline gw_digest gw_sha256(const uint8_t *bytes, size_t bytes_len)
+{
+    return gronwythal_sha256(gw_lent_(bytes), bytes_len);
 }
 
 /* A fetched image against what find gave (5, 8): lengths, and 32 bytes of digest each; first what was found, then what was fetched. */

@@ -48,24 +48,32 @@ static file taken(const char *name)
     return f;
 }
 
-typedef struct digest {
-    uint8_t at[GW_ID_SIZE];
-} digest;
-
-static digest undone(const char *hex)
+/* The file with its first `from` replaced by `to`, which has as many bytes. */
+static file changed(file f, const char *from, const char *to)
 {
-    digest d;
+    size_t len = strlen(from), at = 0;
+    while (at + len <= f.len && memcmp(f.at + at, from, len) != 0) {
+        at++;
+    }
+    EXPECT(1, at + len <= f.len && strlen(to) == len);
+    if (at + len <= f.len) {
+        memcpy(f.at + at, to, len);
+    }
+    return f;
+}
+
+static gw_digest undone(const char *hex)
+{
+    gw_digest d;
     size_t i;
     for (i = 0; i < GW_ID_SIZE; i++) {
         unsigned byte = 0;
         sscanf(hex + 2 * i, "%2x", &byte);
-        d.at[i] = (uint8_t)byte;
+        d.bytes[i] = (uint8_t)byte;
     }
     return d;
 }
 
-static const char *const SNAPSHOT_7 = "566476c65a7dadb8c8e6ab05df97bfaf28784862ba2fca19d95d25a5a23bd079";
-static const char *const TARGETS_3 = "341ed2b004a4f5586b2b2ddfe693b578d45f696c7988c4ab092d3c7bf31a5f79";
 static const char *const FIRMWARE = "662a281800ccab23d61a0d5a7d3ad0b9cb1d9689a71e8db92d1e39c2dfe2fd66";
 static const char *const OLD_FIRMWARE = "73cbe3a9d013872aa25f7183ca10872ff2a72321f5267a5133cbcc367fc3a71e";
 static const char *const ROOT_A = "c2220a4f3b368395bb6445ec9b9ee76db0ab7eec6dfed477046a4aeb3b415370";
@@ -122,10 +130,10 @@ static void nothing_at_all(void)
     EXPECT(1, gw_held(&state).start == INT64_MIN);
     EXPECT(GW_NOT_TEXT, gw_root(&state, NULL, 0, NULL, 0, NULL, 0));
     EXPECT(GW_NOT_TEXT, gw_timestamp(&state, NULL, 0, NULL, 0));
-    EXPECT(GW_NOT_TEXT, gw_snapshot(&state, NULL, 0, NULL, 0, NULL, 0));
-    EXPECT(GW_NOT_TEXT, gw_targets(&state, NULL, 0, NULL, 0, NULL, 0));
+    EXPECT(GW_NOT_TEXT, gw_snapshot(&state, NULL, 0, NULL, 0));
+    EXPECT(GW_NOT_TEXT, gw_targets(&state, NULL, 0, NULL, 0));
     memset(&image, 0xa5, sizeof image);
-    EXPECT(GW_NOT_TEXT, gw_find(&state, NULL, 0, NULL, 0, NULL, 0, &image));
+    EXPECT(GW_NOT_TEXT, gw_find(&state, NULL, 0, NULL, 0, &image));
     EXPECT(0, image.length);
     EXPECT(1, zeros(image.digest, sizeof image.digest));
     memset(&key, 0xa5, sizeof key);
@@ -168,7 +176,7 @@ static void looking_in(void)
     EXPECT(0, memcmp(part, "{\"_type\":\"root\",", 16));
     EXPECT(1, part + part_len + 1 == root.at + root.len);
     EXPECT(GW_ACCEPTED, gw_entry_at(root.at, root.len, 0, &entry));
-    EXPECT(0, memcmp(entry.keyid, undone(ROOT_A).at, GW_ID_SIZE));
+    EXPECT(0, memcmp(entry.keyid, undone(ROOT_A).bytes, GW_ID_SIZE));
     EXPECT(0x3a, entry.sig[0]);
     EXPECT(0x03, entry.sig[GW_SIGNATURE_SIZE - 1]);
     EXPECT(GW_ACCEPTED, gw_entry_at(root.at, root.len, 1, &entry));
@@ -185,8 +193,12 @@ static void an_update(void)
 {
     const file root_1 = taken("root-1.json"), root_2 = taken("root-2.json"), timestamp = taken("timestamp-41.json");
     const file snapshot = taken("snapshot-7.json"), targets = taken("targets-3.json");
-    const digest listed_snapshot = undone(SNAPSHOT_7), listed_targets = undone(TARGETS_3);
-    const digest image_digest = undone(FIRMWARE), old_digest = undone(OLD_FIRMWARE);
+    /* A digit of the signature is another: length and form are the same, the digest is not. */
+    const file altered_snapshot = changed(snapshot, "\"sig\":\"582f", "\"sig\":\"682f");
+    const file altered_targets = changed(targets, "\"sig\":\"8179", "\"sig\":\"9179");
+    const file fetched = taken("gate-firmware.img");
+    const gw_digest image_digest = undone(FIRMWARE), old_digest = undone(OLD_FIRMWARE);
+    gw_digest fetched_digest;
     const char *path = "gate-firmware.img";
     gw_state state;
     gw_image image;
@@ -202,7 +214,7 @@ static void an_update(void)
     EXPECT(MORNING, gw_held(&state).start);
 
     EXPECT(GW_ACCEPTED, gw_key(&state, text(ROOT_A), GW_KEYID_HEX, &key));
-    EXPECT(0, memcmp(key.bytes, undone(ROOT_A_PUBLIC).at, GW_ID_SIZE));
+    EXPECT(0, memcmp(key.bytes, undone(ROOT_A_PUBLIC).bytes, GW_ID_SIZE));
     EXPECT(GW_NOT_LISTED, gw_key(&state, text(ROOT_A), GW_KEYID_HEX - 1, &key));
 
     EXPECT(GW_BAD_ARGUMENT, gw_root(&state, root_2.at, root_2.len, GOOD, 3, GOOD, 2));
@@ -221,33 +233,120 @@ static void an_update(void)
     EXPECT(2041000000, held(&state));
     EXPECT(GW_NO_NEWS, gw_timestamp(&state, timestamp.at, timestamp.len, GOOD, 1));
 
-    EXPECT(GW_BAD_ARGUMENT, gw_snapshot(&state, snapshot.at, snapshot.len, GOOD, 2, listed_snapshot.at, GW_ID_SIZE));
-    EXPECT(GW_BAD_ARGUMENT, gw_snapshot(&state, snapshot.at, snapshot.len, GOOD, 1, listed_snapshot.at, GW_ID_SIZE - 1));
-    EXPECT(GW_OTHER_CONTENT, gw_snapshot(&state, snapshot.at, snapshot.len, GOOD, 1, listed_targets.at, GW_ID_SIZE));
-    EXPECT(GW_ACCEPTED, gw_snapshot(&state, snapshot.at, snapshot.len, GOOD, 1, listed_snapshot.at, GW_ID_SIZE));
+    EXPECT(GW_BAD_ARGUMENT, gw_snapshot(&state, snapshot.at, snapshot.len, GOOD, 2));
+    EXPECT(GW_NOT_TEXT, gw_snapshot(&state, snapshot.at, snapshot.len - 1, GOOD, 1));
+    EXPECT(GW_OTHER_CONTENT, gw_snapshot(&state, altered_snapshot.at, altered_snapshot.len, GOOD, 1));
+    EXPECT(GW_ACCEPTED, gw_snapshot(&state, snapshot.at, snapshot.len, GOOD, 1));
     EXPECT(2041007000, held(&state));
 
-    EXPECT(GW_BAD_ARGUMENT, gw_targets(&state, targets.at, targets.len, GOOD, 0, listed_targets.at, GW_ID_SIZE));
-    EXPECT(GW_BAD_ARGUMENT, gw_targets(&state, targets.at, targets.len, GOOD, 1, listed_targets.at, 0));
-    EXPECT(GW_ACCEPTED, gw_targets(&state, targets.at, targets.len, GOOD, 1, listed_targets.at, GW_ID_SIZE));
+    EXPECT(GW_BAD_ARGUMENT, gw_targets(&state, targets.at, targets.len, GOOD, 0));
+    EXPECT(GW_NOT_TEXT, gw_targets(&state, targets.at, targets.len - 1, GOOD, 1));
+    EXPECT(GW_ACCEPTED, gw_targets(&state, targets.at, targets.len, GOOD, 1));
     EXPECT(2041007003, held(&state));
 
-    EXPECT(GW_BAD_ARGUMENT, gw_find(&state, targets.at, targets.len, listed_targets.at, 31, text(path), 17, &image));
-    EXPECT(GW_OTHER_CONTENT, gw_find(&state, targets.at, targets.len, listed_snapshot.at, 32, text(path), 17, &image));
-    EXPECT(GW_NOT_LISTED, gw_find(&state, targets.at, targets.len, listed_targets.at, 32, text(path), 16, &image));
+    EXPECT(GW_NOT_TEXT, gw_find(&state, targets.at, targets.len - 1, text(path), 17, &image));
+    EXPECT(GW_OTHER_CONTENT, gw_find(&state, altered_targets.at, altered_targets.len, text(path), 17, &image));
+    EXPECT(GW_NOT_LISTED, gw_find(&state, targets.at, targets.len, text(path), 16, &image));
     EXPECT(0, image.length);
-    EXPECT(GW_ACCEPTED, gw_find(&state, targets.at, targets.len, listed_targets.at, 32, text(path), 17, &image));
+    EXPECT(GW_ACCEPTED, gw_find(&state, targets.at, targets.len, text(path), 17, &image));
     EXPECT(91, image.length);
-    EXPECT(0, memcmp(image.digest, image_digest.at, GW_ID_SIZE));
+    EXPECT(0, memcmp(image.digest, image_digest.bytes, GW_ID_SIZE));
 
-    EXPECT(GW_ACCEPTED, gw_check_image(image.length, image.digest, GW_ID_SIZE, 91, image_digest.at, GW_ID_SIZE));
-    EXPECT(GW_OTHER_CONTENT, gw_check_image(image.length, image.digest, GW_ID_SIZE, 92, image_digest.at, GW_ID_SIZE));
-    EXPECT(GW_OTHER_CONTENT, gw_check_image(image.length, image.digest, GW_ID_SIZE, 91, old_digest.at, GW_ID_SIZE));
-    EXPECT(GW_BAD_ARGUMENT, gw_check_image(image.length, image.digest, 31, 91, image_digest.at, GW_ID_SIZE));
-    EXPECT(GW_BAD_ARGUMENT, gw_check_image(image.length, image.digest, GW_ID_SIZE, 91, image_digest.at, 33));
+    fetched_digest = gw_sha256(fetched.at, fetched.len);
+    EXPECT(GW_ACCEPTED, gw_check_image(image.length, image.digest, GW_ID_SIZE, fetched.len, fetched_digest.bytes, GW_ID_SIZE));
+    EXPECT(GW_ACCEPTED, gw_check_image(image.length, image.digest, GW_ID_SIZE, 91, image_digest.bytes, GW_ID_SIZE));
+    EXPECT(GW_OTHER_CONTENT, gw_check_image(image.length, image.digest, GW_ID_SIZE, 92, image_digest.bytes, GW_ID_SIZE));
+    EXPECT(GW_OTHER_CONTENT, gw_check_image(image.length, image.digest, GW_ID_SIZE, 91, old_digest.bytes, GW_ID_SIZE));
+    EXPECT(GW_BAD_ARGUMENT, gw_check_image(image.length, image.digest, 31, 91, image_digest.bytes, GW_ID_SIZE));
+    EXPECT(GW_BAD_ARGUMENT, gw_check_image(image.length, image.digest, GW_ID_SIZE, 91, image_digest.bytes, 33));
 
     EXPECT(2041007003, held(&state));
     EXPECT(MORNING, gw_held(&state).start);
+}
+
+/* ---- Keyids: each is the digest of its key, tried after the form (3) and before spec_version (4) */
+
+/* The file with that digit of root-a's keyid changed in each of its places. The keyid is the last of the key table, and stays so. */
+static file with_other_keyid(file f, size_t digit)
+{
+    size_t at, places = 0;
+    for (at = 0; at + GW_KEYID_HEX <= f.len; at++) {
+        uint8_t *c = f.at + at + digit;
+        if (memcmp(f.at + at, ROOT_A, GW_KEYID_HEX) == 0) {
+            *c = (uint8_t)(*c == '9' ? 'a' : *c == 'f' ? '0' : *c + 1);
+            places++;
+        }
+    }
+    EXPECT(3, places); /* a signature, the key table, the root role */
+    return f;
+}
+
+static void keyids(void)
+{
+    const file root_1 = taken("root-1.json"), root_2 = taken("root-2.json");
+    gw_state state, refused;
+    size_t digit;
+
+    EXPECT(GW_ACCEPTED, gw_install(&state, root_1.at, root_1.len, GOOD, 2, MORNING));
+    for (digit = 0; digit < GW_KEYID_HEX; digit++) {
+        const file other_1 = with_other_keyid(root_1, digit), other_2 = with_other_keyid(root_2, digit);
+        EXPECT(GW_OTHER_KEYID, gw_install(&refused, other_1.at, other_1.len, GOOD, 2, MORNING));
+        EXPECT(0, held(&refused));
+        EXPECT(GW_OTHER_KEYID, gw_root(&state, other_2.at, other_2.len, GOOD, 2, GOOD, 2));
+        EXPECT(1000000000, held(&state));
+    }
+}
+
+static void order_of_keyids(void)
+{
+    const file root = taken("root-1.json"), misnamed = with_other_keyid(root, 0);
+    const file bad_form = changed(root, "\"threshold\":2", "\"threshold\":3"), other_spec = changed(root, "\"1.0.26\"", "\"2.0.26\"");
+    const file misnamed_bad_form = with_other_keyid(bad_form, 0), misnamed_other_spec = with_other_keyid(other_spec, 0);
+    gw_state state;
+
+    EXPECT(GW_BAD_FORM, gw_install(&state, bad_form.at, bad_form.len, GOOD, 2, MORNING));
+    EXPECT(GW_BAD_FORM, gw_install(&state, misnamed_bad_form.at, misnamed_bad_form.len, GOOD, 2, MORNING));
+    EXPECT(GW_OTHER_SPEC, gw_install(&state, other_spec.at, other_spec.len, GOOD, 2, MORNING));
+    EXPECT(GW_OTHER_KEYID, gw_install(&state, misnamed_other_spec.at, misnamed_other_spec.len, GOOD, 2, MORNING));
+    EXPECT(GW_OTHER_KEYID, gw_install(&state, misnamed.at, misnamed.len, GOOD, 1, MORNING));
+}
+
+/* ---- SHA-256, by NIST's examples for FIPS 180-4: no bytes, "abc", 448 and 896 bits, a million bytes, and four at the end of a block */
+
+typedef struct vector {
+    const char *unit; /* repeated so many times */
+    size_t unit_len, times;
+    const char *digest;
+} vector;
+
+static const vector VECTORS[] = {
+    {"", 0, 0, "e3b0c44298fc1c149afbf4c8996fb92427ae41e4649b934ca495991b7852b855"},
+    {"abc", 3, 1, "ba7816bf8f01cfea414140de5dae2223b00361a396177a9cb410ff61f20015ad"},
+    {"abcdbcdecdefdefgefghfghighijhijkijkljklmklmnlmnomnopnopq", 56, 1,
+     "248d6a61d20638b8e5c026930c3e6039a33ce45964ff2167f6ecedd419db06c1"},
+    {"abcdefghbcdefghicdefghijdefghijkefghijklfghijklmghijklmnhijklmnoijklmnopjklmnopqklmnopqrlmnopqrsmnopqrstnopqrstu", 112, 1,
+     "cf5b16a778af8380036ce59e7b0492370b249b11e8f07a51afac45037afee9d1"},
+    {"a", 1, 1000000, "cdc76e5c9914fb9281a1c7e284d73e67f1809a48a497200e046d39ccc7112cd0"},
+    {"\0", 1, 55, "02779466cdec163811d078815c633f21901413081449002f24aa3e80f0b88ef7"},
+    {"\0", 1, 56, "d4817aa5497628e7c77e6b606107042bbba3130888c5f47a375e6179be789fbb"},
+    {"\0", 1, 57, "65a16cb7861335d5ace3c60718b5052e44660726da4cd13bb745381b235a1785"},
+    {"\0", 1, 64, "f5a5fd42d16a20302798ef6ed309979b43003d2320d9f0e8ea9831a92759fb4b"},
+};
+
+static void sha256(void)
+{
+    static uint8_t message[1000000];
+    size_t i, k;
+    gw_digest given = gw_sha256(NULL, 0);
+    EXPECT(0, memcmp(given.bytes, undone(VECTORS[0].digest).bytes, GW_ID_SIZE));
+    for (i = 0; i < sizeof VECTORS / sizeof *VECTORS; i++) {
+        const vector *v = &VECTORS[i];
+        for (k = 0; k < v->times; k++) {
+            memcpy(message + k * v->unit_len, v->unit, v->unit_len);
+        }
+        given = gw_sha256(message, v->times * v->unit_len);
+        EXPECT(0, memcmp(given.bytes, undone(v->digest).bytes, GW_ID_SIZE));
+    }
 }
 
 /* ---- A file of 32,769 bytes is too long; one of 32,768 is looked at. Neither is written. */
@@ -276,6 +375,9 @@ int main(int argc, char **argv)
     nothing_at_all();
     looking_in();
     an_update();
+    keyids();
+    order_of_keyids();
+    sha256();
     at_the_limit();
     printf("%d passed, %d failed\n", passed, failed);
     return failed != 0;

@@ -19,7 +19,7 @@ static int passed, failed;
 /* ---- The update: what a call is lent stands here, so that the stack has the call alone */
 
 static gw_state state;
-static uint8_t file[4096], digest[GW_ID_SIZE];
+static uint8_t file[4096], message[1000000];
 static size_t file_len;
 static const uint8_t good[2] = {1, 1};
 static gw_answer answer;
@@ -28,19 +28,26 @@ static void install(void) { answer = gw_install(&state, file, file_len, good, 2,
 static void new_cycle(void) { answer = gw_new_cycle(&state, 1772431200); }
 static void root(void) { answer = gw_root(&state, file, file_len, good, 2, good, 2); }
 static void timestamp(void) { answer = gw_timestamp(&state, file, file_len, good, 1); }
-static void snapshot(void) { answer = gw_snapshot(&state, file, file_len, good, 1, digest, sizeof digest); }
-static void targets(void) { answer = gw_targets(&state, file, file_len, good, 1, digest, sizeof digest); }
+static void snapshot(void) { answer = gw_snapshot(&state, file, file_len, good, 1); }
+static void targets(void) { answer = gw_targets(&state, file, file_len, good, 1); }
 
 static void find(void)
 {
     gw_image image;
-    answer = gw_find(&state, file, file_len, digest, sizeof digest, (const uint8_t *)"gate-firmware.img", 17, &image);
+    answer = gw_find(&state, file, file_len, (const uint8_t *)"gate-firmware.img", 17, &image);
 }
 
 /* As deep as text may be nested. */
 static void is_canonical(void)
 {
     answer = gw_is_canonical((const uint8_t *)"[[[[[[[[0]]]]]]]]", 17) ? GW_ACCEPTED : GW_NOT_TEXT;
+}
+
+/* A million times "a", whose digest NIST gives: it begins with cdc7. The stack must not grow with the number of blocks. */
+static void sha256(void)
+{
+    gw_digest digest = gw_sha256(message, sizeof message);
+    answer = digest.bytes[0] == 0xcd && digest.bytes[1] == 0xc7 ? GW_ACCEPTED : GW_OTHER_CONTENT;
 }
 
 static void take(const char *shelf, const char *name)
@@ -55,15 +62,6 @@ static void take(const char *shelf, const char *name)
     }
     file_len = fread(file, 1, sizeof file, stream);
     fclose(stream);
-}
-
-static void undo(const char *hex)
-{
-    for (size_t i = 0; i < sizeof digest; i++) {
-        unsigned byte = 0;
-        sscanf(hex + 2 * i, "%2x", &byte);
-        digest[i] = (uint8_t)byte;
-    }
 }
 
 /* ---- Counting */
@@ -89,11 +87,16 @@ static void run(void (*call)(void))
     swapcontext(&here, &there);
 }
 
+/* A call takes more than the state that it is given, or nothing was measured. These two are given none. */
+static size_t least(void (*call)(void))
+{
+    return call == is_canonical || call == sha256 ? 0 : GW_STATE_SIZE;
+}
+
 static void measure(const char *name, void (*call)(void))
 {
     run(call);
-    /* Less than a state has would mean that nothing was measured; is_canonical alone is given none. */
-    if (answer == GW_ACCEPTED && taken() <= STATED && (taken() > GW_STATE_SIZE || call == is_canonical)) {
+    if (answer == GW_ACCEPTED && taken() <= STATED && taken() > least(call)) {
         passed++;
         return;
     }
@@ -112,14 +115,14 @@ int main(int argc, char **argv)
     take(shelf, "timestamp-41.json");
     measure("timestamp", timestamp);
     take(shelf, "snapshot-7.json");
-    undo("566476c65a7dadb8c8e6ab05df97bfaf28784862ba2fca19d95d25a5a23bd079");
     measure("snapshot", snapshot);
     measure("a second snapshot", snapshot); /* compares held names with new ones */
     take(shelf, "targets-3.json");
-    undo("341ed2b004a4f5586b2b2ddfe693b578d45f696c7988c4ab092d3c7bf31a5f79");
     measure("targets", targets);
     measure("find", find);
     measure("is_canonical", is_canonical);
+    memset(message, 'a', sizeof message);
+    measure("sha256", sha256);
     printf("%d passed, %d failed\n", passed, failed);
     return failed != 0;
 }

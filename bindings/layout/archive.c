@@ -1,6 +1,7 @@
 /*
  * Where the archive has the fields of each exported struct: a table of lines 'STRUCT FIELD OFFSET SIZE', and 'STRUCT size SIZE', found by
- * the probes of crates/layout. A probe puts two equal values one behind another, in which each field has bytes that no other has.
+ * the probes of crates/layout. A probe puts two equal values one behind another, in which each field has bytes that no other has. A digest
+ * is one field alone, so its two values differ: equal ones would run into one another.
  */
 #include <stdbool.h>
 #include <stdint.h>
@@ -15,6 +16,7 @@
 void layout_state(void *place, int64_t start);
 void layout_step(void *place, uint8_t answer, int64_t start);
 void layout_image(void *place, uint8_t answer, uint64_t length, uint8_t mark);
+void layout_digest(void *place, uint8_t first_mark, uint8_t second_mark);
 void layout_public_key(void *place, uint8_t answer, uint8_t mark);
 void layout_look(void *place, uint8_t answer, size_t start, size_t length, size_t entries);
 void layout_entry(void *place, uint8_t answer, uint8_t keyid_mark, uint8_t sig_mark);
@@ -65,21 +67,27 @@ static size_t next_from(size_t at, uint8_t mark)
     return at;
 }
 
-static runs find(const char *name, const char *field, uint8_t mark)
+/* The field has the first mark in the first value and the second mark in the second; they may be the same. */
+static runs find_two(const char *name, const char *field, uint8_t first_mark, uint8_t second_mark)
 {
     runs r;
     size_t more;
-    r.first = next_from(0, mark);
-    r.length = run_from(r.first, mark);
-    r.second = next_from(r.first + r.length, mark);
-    more = run_from(r.second, mark);
+    r.first = next_from(0, first_mark);
+    r.length = run_from(r.first, first_mark);
+    r.second = next_from(r.first + r.length, second_mark);
+    more = run_from(r.second, second_mark);
     if (r.length == 0 || more == 0) {
         return no_such(name, field, "its mark does not stand in both values");
     }
-    if (more != r.length || next_from(r.second + more, mark) != ROOM) {
+    if (more != r.length || next_from(r.second + more, first_mark) != ROOM || next_from(r.second + more, second_mark) != ROOM) {
         return no_such(name, field, "its mark stands elsewhere too");
     }
     return r;
+}
+
+static runs find(const char *name, const char *field, uint8_t mark)
+{
+    return find_two(name, field, mark, mark);
 }
 
 /* ---- The table */
@@ -98,11 +106,15 @@ static void sized(const char *name, const char *field, runs r)
     }
 }
 
-static void field(const char *name, const char *field_name, uint8_t mark)
+static void show(const char *name, const char *field_name, runs r)
 {
-    runs r = find(name, field_name, mark);
     sized(name, field_name, r);
     printf("%s %s %zu %zu\n", name, field_name, r.first, r.length);
+}
+
+static void field(const char *name, const char *field_name, uint8_t mark)
+{
+    show(name, field_name, find(name, field_name, mark));
 }
 
 static void begin(void)
@@ -178,6 +190,9 @@ int main(void)
     field("image", "answer", 0x11);
     field("image", "length", 0x12);
     field("image", "digest", 0x13);
+    begin();
+    layout_digest(place, 0x11, 0x12);
+    show("digest", "bytes", find_two("digest", "bytes", 0x11, 0x12));
     begin();
     layout_public_key(place, 0x11, 0x12);
     field("public_key", "answer", 0x11);

@@ -18,6 +18,8 @@ int main(void)
     FIELD(image, answer);
     FIELD(image, length);
     FIELD(image, digest);
+    SIZE(digest);
+    FIELD(digest, bytes);
     SIZE(public_key);
     FIELD(public_key, answer);
     FIELD(public_key, bytes);

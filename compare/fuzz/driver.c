@@ -233,15 +233,13 @@ static gw_answer step(char kind, uint8_t how, gw_state *state)
         return gw_install(state, a->bytes, a->len, b->bytes, b->len, take_time());
     case 'T':
         return gw_timestamp(state, a->bytes, a->len, b->bytes, b->len);
+    case 'S':
+        return gw_snapshot(state, a->bytes, a->len, b->bytes, b->len);
+    case 'G':
+        return gw_targets(state, a->bytes, a->len, b->bytes, b->len);
     case 'R':
         c = lend(how);
         return gw_root(state, a->bytes, a->len, b->bytes, b->len, c->bytes, c->len);
-    case 'S':
-        c = lend(how);
-        return gw_snapshot(state, a->bytes, a->len, b->bytes, b->len, c->bytes, c->len);
-    case 'G':
-        c = lend(how);
-        return gw_targets(state, a->bytes, a->len, b->bytes, b->len, c->bytes, c->len);
     default:
         stop("no such call");
     }
@@ -259,9 +257,9 @@ static void make_step(char kind, uint8_t how, gw_state *state)
 
 static void find(uint8_t how, const gw_state *state)
 {
-    const struct lent *file = lend(how), *digest = lend(how), *path = lend(how);
+    const struct lent *file = lend(how), *path = lend(how);
     gw_image image;
-    gw_answer answer = gw_find(state, file->bytes, file->len, digest->bytes, digest->len, path->bytes, path->len, &image);
+    gw_answer answer = gw_find(state, file->bytes, file->len, path->bytes, path->len, &image);
     compare("answer", answer, take_byte());
     compare("answer in the image", image.answer, answer);
     compare_number("length", image.length);
@@ -312,6 +310,15 @@ static void entry(uint8_t how)
     compare_bytes("sig", read.sig, sizeof read.sig);
 }
 
+/* It is never refused; paper's answer is 0. */
+static void sha256(uint8_t how)
+{
+    const struct lent *message = lend(how);
+    gw_digest digest = gw_sha256(message->bytes, message->len);
+    compare("answer", GW_ACCEPTED, take_byte());
+    compare_bytes("digest", digest.bytes, sizeof digest.bytes);
+}
+
 static void make(char kind, uint8_t how, gw_state *state)
 {
     const struct lent *text;
@@ -330,6 +337,9 @@ static void make(char kind, uint8_t how, gw_state *state)
         break;
     case 'e':
         entry(how);
+        break;
+    case 'h':
+        sha256(how);
         break;
     case 'c':
         text = lend(how);

@@ -8,14 +8,13 @@
  */
 #include <openssl/evp.h>
 #include <stdio.h>
-#include <stdlib.h>
 #include <string.h>
 
 #include "gronwythal.h"
 
 #define IMAGE "gate-firmware.img"
 
-/* ---- Cryptography, by libcrypto */
+/* ---- Signatures, by libcrypto */
 
 /* Whether it is a good Ed25519 signature. A check that cannot be made is a bad one. */
 static bool verifies(const uint8_t public_key[GW_ID_SIZE], const uint8_t *part, size_t part_len, const uint8_t sig[GW_SIGNATURE_SIZE])
@@ -29,21 +28,12 @@ static bool verifies(const uint8_t public_key[GW_ID_SIZE], const uint8_t *part, 
     return good;
 }
 
-static void sha256(const uint8_t *bytes, size_t len, uint8_t digest[GW_ID_SIZE])
-{
-    if (EVP_Digest(bytes, len, digest, NULL, EVP_sha256(), NULL) != 1) {
-        fprintf(stderr, "controller: libcrypto gives no SHA-256\n");
-        exit(1);
-    }
-}
-
 /* ---- Files. One byte more than a file may have is taken, so that a longer one is seen to be. */
 
 typedef struct file {
     const char *name;
     uint8_t bytes[GW_MAX_FILE + 1];
     size_t len;
-    uint8_t digest[GW_ID_SIZE];
 } file;
 
 static const char *shelf;
@@ -55,7 +45,6 @@ static bool fetch(const char *name, file *f)
     FILE *stream;
     f->name = name;
     f->len = 0;
-    memset(f->digest, 0, sizeof f->digest);
     snprintf(path, sizeof path, "%s/%s", shelf, name);
     stream = fopen(path, "rb");
     if (!stream) {
@@ -63,7 +52,6 @@ static bool fetch(const char *name, file *f)
     }
     f->len = fread(f->bytes, 1, sizeof f->bytes, stream);
     fclose(stream);
-    sha256(f->bytes, f->len, f->digest);
     return true;
 }
 
@@ -148,6 +136,7 @@ static const char *const WORDS[] = {
     "a listed version went back, or a name vanished",
     "the offered file has expired",
     "not listed",
+    "a keyid in a key table is not the digest of its key",
 };
 
 static bool said(gw_answer answer)
@@ -257,7 +246,7 @@ static bool new_snapshot(const char *name)
     fetch(name, &f);
     r = verdicts(&state, &f);
     show_signed(&f, &r);
-    return said(gw_snapshot(&state, f.bytes, f.len, r.verdicts, r.len, f.digest, sizeof f.digest));
+    return said(gw_snapshot(&state, f.bytes, f.len, r.verdicts, r.len));
 }
 
 static bool new_targets(const char *name)
@@ -267,7 +256,7 @@ static bool new_targets(const char *name)
     fetch(name, &f);
     r = verdicts(&state, &f);
     show_signed(&f, &r);
-    if (!said(gw_targets(&state, f.bytes, f.len, r.verdicts, r.len, f.digest, sizeof f.digest))) {
+    if (!said(gw_targets(&state, f.bytes, f.len, r.verdicts, r.len))) {
         return false;
     }
     targets = f;
@@ -279,16 +268,17 @@ static bool image(const char *name)
 {
     static file f;
     gw_image listed;
-    gw_answer answer = gw_find(&state, targets.bytes, targets.len, targets.digest, sizeof targets.digest,
-                               (const uint8_t *)IMAGE, strlen(IMAGE), &listed);
+    gw_digest digest;
+    gw_answer answer = gw_find(&state, targets.bytes, targets.len, (const uint8_t *)IMAGE, strlen(IMAGE), &listed);
     printf("  " IMAGE ": ");
     if (answer != GW_ACCEPTED) {
         return said(answer);
     }
     printf("listed with %llu bytes\n", (unsigned long long)listed.length);
     fetch(name, &f);
+    digest = gw_sha256(f.bytes, f.len);
     printf("  %s, fetched: ", name);
-    return said(gw_check_image(listed.length, listed.digest, sizeof listed.digest, f.len, f.digest, sizeof f.digest));
+    return said(gw_check_image(listed.length, listed.digest, sizeof listed.digest, f.len, digest.bytes, sizeof digest.bytes));
 }
 
 /* ---- Visits to the shelf: the clock, and which of its files the controller is given for each name that day */

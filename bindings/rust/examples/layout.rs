@@ -1,6 +1,6 @@
 //! Where this crate has the fields of each struct that it shares with the archive: the table of bindings/layout/archive.c.
 
-use gronwythal::raw::{Entry, Image, Look, PublicKey, State, Step, Version, Versions};
+use gronwythal::raw::{Digest, Entry, Image, Look, PublicKey, State, Step, Version, Versions};
 use std::mem::{align_of, offset_of, size_of};
 
 fn field_size<S, F>(_: fn(&S) -> &F) -> usize {
@@ -24,6 +24,7 @@ fn main() {
         state: State {}
         step: Step { answer, state }
         image: Image { answer, length, digest }
+        digest: Digest { bytes }
         public_key: PublicKey { answer, bytes }
         look: Look { answer, start, length, entries }
         entry: Entry { answer, keyid, sig }

@@ -4,9 +4,10 @@
 //! gives its answers Rust's types. Nothing is allocated and nothing is global. Every byte string, verdict row, digest and clock is
 //! answered: nothing has to be checked before a call, and a refusal leaves the state as it was. A call takes at most 48 KiB of stack.
 //!
-//! The caller checks signatures and computes digests. A *verdict row* has one byte for each signature entry of the file, in file order: 1 if
-//! its signature verifies over the [signed part](signed_part) under the key of its keyid, else 0, also where no such key is known. Digests
-//! are SHA-256. `examples/rust` is a whole controller.
+//! The caller checks signatures. A *verdict row* has one byte for each signature entry of the file, in file order: 1 if its signature
+//! verifies over the [signed part](signed_part) under the key of its keyid, else 0, also where no such key is known. Digests are SHA-256.
+//! Those of metadata files are computed inside; that of a fetched image is an argument, and [`sha256`] computes it. `examples/rust` is a
+//! whole controller.
 //!
 //! ```
 //! use gronwythal::{Refusal, State};
@@ -68,8 +69,8 @@ impl State {
         State(raw::gronwythal_blank())
     }
 
-    /// The root from the factory, judged by its own root role (refusals 1 to 5, 10), and the first start time. `row` has the verdicts under
-    /// the keys that the file itself lists. Expiry does not matter here.
+    /// The root from the factory, judged by its own root role (refusals 1 to 5, 10, 16), and the first start time. `row` has the verdicts
+    /// under the keys that the file itself lists. Expiry does not matter here.
     ///
     /// An install is given no state and begins a new history. After a refused one, document 01's state is the blank one, and so
     /// `State::install(file, row, start).unwrap_or_default()` is the state after an install whatever its answer.
@@ -84,8 +85,8 @@ impl State {
         self.0 = raw::gronwythal_new_cycle(self.0, start).state;
     }
 
-    /// The next root (1 to 6, 9, 10, 11), whose version is the held one plus one: the verdicts under the held root's keys, and those under
-    /// the keys that the file itself lists.
+    /// The next root (1 to 6, 9, 10, 11, 16), whose version is the held one plus one: the verdicts under the held root's keys, and those
+    /// under the keys that the file itself lists.
     ///
     /// A root that changes the set of keys of timestamp or snapshot drops those records and targets; one that changes that of targets alone
     /// drops targets.
@@ -112,55 +113,25 @@ impl State {
         self.kept(step)
     }
 
-    /// The snapshot that the held timestamp lists, with its digest (1 to 9, 11, 13, 14).
-    pub fn snapshot(&mut self, file: &[u8], row: &[u8], digest: &[u8]) -> Result<(), Refusal> {
+    /// The snapshot that the held timestamp lists (1 to 9, 11, 13, 14).
+    pub fn snapshot(&mut self, file: &[u8], row: &[u8]) -> Result<(), Refusal> {
         // SAFETY: slices are lent.
-        let step = unsafe {
-            raw::gronwythal_snapshot(
-                self.0,
-                file.as_ptr(),
-                file.len(),
-                row.as_ptr(),
-                row.len(),
-                digest.as_ptr(),
-                digest.len(),
-            )
-        };
+        let step = unsafe { raw::gronwythal_snapshot(self.0, file.as_ptr(), file.len(), row.as_ptr(), row.len()) };
         self.kept(step)
     }
 
-    /// The targets file that the held snapshot lists, with its digest (1 to 9, 11, 14). Keep the file: [`State::find`] asks for it.
-    pub fn targets(&mut self, file: &[u8], row: &[u8], digest: &[u8]) -> Result<(), Refusal> {
+    /// The targets file that the held snapshot lists (1 to 9, 11, 14). Keep the file: [`State::find`] asks for it.
+    pub fn targets(&mut self, file: &[u8], row: &[u8]) -> Result<(), Refusal> {
         // SAFETY: slices are lent.
-        let step = unsafe {
-            raw::gronwythal_targets(
-                self.0,
-                file.as_ptr(),
-                file.len(),
-                row.as_ptr(),
-                row.len(),
-                digest.as_ptr(),
-                digest.len(),
-            )
-        };
+        let step = unsafe { raw::gronwythal_targets(self.0, file.as_ptr(), file.len(), row.as_ptr(), row.len()) };
         self.kept(step)
     }
 
-    /// The length and digest of the image of that path (1 to 8, 15). The file is the targets file that was accepted; by its digest, the
-    /// caller's anew, it is known again. The path is the name in that file with its escapes undone.
-    pub fn find(&self, file: &[u8], digest: &[u8], path: &[u8]) -> Result<Image, Refusal> {
+    /// The length and digest of the image of that path (1 to 4, 6 to 8, 15). The file is the targets file that was accepted; another is
+    /// refused, by its digest. The path is the name in that file with its escapes undone.
+    pub fn find(&self, file: &[u8], path: &[u8]) -> Result<Image, Refusal> {
         // SAFETY: slices are lent.
-        let found = unsafe {
-            raw::gronwythal_find(
-                self.0,
-                file.as_ptr(),
-                file.len(),
-                digest.as_ptr(),
-                digest.len(),
-                path.as_ptr(),
-                path.len(),
-            )
-        };
+        let found = unsafe { raw::gronwythal_find(self.0, file.as_ptr(), file.len(), path.as_ptr(), path.len()) };
         answered(found.answer).map(|()| Image {
             length: found.length,
             digest: found.digest,
@@ -224,10 +195,18 @@ pub struct Image {
 }
 
 impl Image {
-    /// Whether a fetched image of that length and digest is the listed one (5, 8).
+    /// Whether a fetched image of that length and digest is the listed one (5, 8). [`sha256`] computes the digest.
     pub fn check(&self, fetched: u64, digest: &[u8]) -> Result<(), Refusal> {
         check_image(self.length, &self.digest, fetched, digest)
     }
+}
+
+/// SHA-256 of the bytes: a fetched image's digest, for [`Image::check`].
+///
+/// They are lent in one piece; a controller that fetches an image in several needs a SHA-256 of its own.
+pub fn sha256(bytes: &[u8]) -> [u8; ID_SIZE] {
+    // SAFETY: a slice is lent.
+    unsafe { raw::gronwythal_sha256(bytes.as_ptr(), bytes.len()) }.bytes
 }
 
 /// A fetched image against what is listed (5, 8): the listed length and digest, then the fetched ones. [`Image::check`] is the same of an

@@ -35,6 +35,14 @@ pub struct Image {
     pub digest: [u8; 32],
 }
 
+/// A SHA-256 digest.
+#[derive(Clone, Copy)]
+#[repr(C)]
+pub struct Digest {
+    /// The digest.
+    pub bytes: [u8; 32],
+}
+
 /// A held root's public key: zeros where it is refused.
 #[derive(Clone, Copy)]
 #[repr(C)]
@@ -114,35 +122,12 @@ unsafe extern "C" {
     ) -> Step;
     pub fn gronwythal_timestamp(state: State, file: *const u8, file_len: usize, row: *const u8, row_len: usize)
     -> Step;
-    pub fn gronwythal_snapshot(
-        state: State,
-        file: *const u8,
-        file_len: usize,
-        row: *const u8,
-        row_len: usize,
-        digest: *const u8,
-        digest_len: usize,
-    ) -> Step;
-    pub fn gronwythal_targets(
-        state: State,
-        file: *const u8,
-        file_len: usize,
-        row: *const u8,
-        row_len: usize,
-        digest: *const u8,
-        digest_len: usize,
-    ) -> Step;
-    pub fn gronwythal_find(
-        state: State,
-        file: *const u8,
-        file_len: usize,
-        digest: *const u8,
-        digest_len: usize,
-        path: *const u8,
-        path_len: usize,
-    ) -> Image;
+    pub fn gronwythal_snapshot(state: State, file: *const u8, file_len: usize, row: *const u8, row_len: usize) -> Step;
+    pub fn gronwythal_targets(state: State, file: *const u8, file_len: usize, row: *const u8, row_len: usize) -> Step;
+    pub fn gronwythal_find(state: State, file: *const u8, file_len: usize, path: *const u8, path_len: usize) -> Image;
     pub fn gronwythal_key(state: State, keyid: *const u8, keyid_len: usize) -> PublicKey;
     pub safe fn gronwythal_versions(state: State) -> Versions;
+    pub fn gronwythal_sha256(bytes: *const u8, bytes_len: usize) -> Digest;
     pub fn gronwythal_check_image(
         listed: u64,
         digest: *const u8,

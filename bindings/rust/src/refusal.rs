@@ -3,7 +3,8 @@
 use core::error::Error;
 use core::fmt;
 
-/// Why a call is refused: document 01's table. A call answers with the lowest number whose condition holds, of those that it uses.
+/// Why a call is refused: document 01's table, with 16 of change request A1. A call answers with the lowest number whose condition holds, of
+/// those that it uses; only 16 is out of this order, tried between 3 and 4.
 #[derive(Clone, Copy, Debug, PartialEq, Eq, PartialOrd, Ord, Hash)]
 #[repr(u8)]
 #[non_exhaustive]
@@ -16,7 +17,7 @@ pub enum Refusal {
     BadForm = 3,
     /// The spec_version is neither `1` nor begins with `1.`.
     OtherSpec = 4,
-    /// A verdict row of another length than the entries, a verdict not 0 or 1, or a digest not 32 bytes.
+    /// A verdict row of another length than the entries, a verdict not 0 or 1, or an image's digest not 32 bytes.
     BadArgument = 5,
     /// A record that the step needs is not held, or not current.
     NotHeld = 6,
@@ -38,11 +39,13 @@ pub enum Refusal {
     FileExpired = 14,
     /// Not listed.
     NotListed = 15,
+    /// A keyid in a key table is not the digest of its key.
+    OtherKeyid = 16,
 }
 
 impl Refusal {
     /// Every refusal, by rising number.
-    pub const ALL: [Refusal; 15] = [
+    pub const ALL: [Refusal; 16] = [
         Refusal::TooLong,
         Refusal::NotText,
         Refusal::BadForm,
@@ -58,6 +61,7 @@ impl Refusal {
         Refusal::WentBack,
         Refusal::FileExpired,
         Refusal::NotListed,
+        Refusal::OtherKeyid,
     ];
 
     /// Its number in document 01's table.
@@ -89,6 +93,7 @@ impl Refusal {
             Refusal::WentBack => "a listed version went back, or a name vanished",
             Refusal::FileExpired => "the offered file has expired",
             Refusal::NotListed => "not listed",
+            Refusal::OtherKeyid => "a keyid in a key table is not the digest of its key",
         }
     }
 }
@@ -104,7 +109,7 @@ impl Error for Refusal {}
 
 /// An answer of the archive: 0 is "accepted".
 ///
-/// No function of the archive answers above 15; that is proved. Another number means that the archive is of another version than this crate.
+/// No function of the archive answers above 16; that is proved. Another number means that the archive is of another version than this crate.
 pub(crate) fn answered(number: u8) -> Result<(), Refusal> {
     match (number, Refusal::numbered(number)) {
         (0, _) => Ok(()),

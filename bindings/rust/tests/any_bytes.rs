@@ -1,7 +1,7 @@
 //! Any bytes are answered: empty input, damaged files, noise, and states in the middle of an update. Nothing is stated of most answers but
 //! what document 01 says of all: a refusal leaves the state, what is refused is zeros, and the calls agree with one another.
 
-use gronwythal::{Refusal, State, check_image, entry, is_canonical, look, raw, signed_part};
+use gronwythal::{Refusal, State, check_image, entry, is_canonical, look, raw, sha256, signed_part};
 use std::fs;
 use std::path::Path;
 
@@ -54,15 +54,15 @@ fn middle() -> State {
     state
 }
 
-/// Offers a file to every call, with a row and a digest. A refused step leaves the state as it was.
-fn offer(state: &State, file: &[u8], row: &[u8], digest: &[u8], path: &[u8]) {
+/// Offers a file to every call, with a row and a path. A refused step leaves the state as it was.
+fn offer(state: &State, file: &[u8], row: &[u8], path: &[u8]) {
     let (mut root, mut timestamp, mut snapshot, mut targets) =
         (state.clone(), state.clone(), state.clone(), state.clone());
     let steps = [
         (root.root(file, row, row), root),
         (timestamp.timestamp(file, row), timestamp),
-        (snapshot.snapshot(file, row, digest), snapshot),
-        (targets.targets(file, row, digest), targets),
+        (snapshot.snapshot(file, row), snapshot),
+        (targets.targets(file, row), targets),
     ];
     for (answer, after) in steps {
         if answer.is_err() {
@@ -72,9 +72,10 @@ fn offer(state: &State, file: &[u8], row: &[u8], digest: &[u8], path: &[u8]) {
         }
     }
     let _ = State::install(file, row, 0);
-    let _ = state.find(file, digest, path);
+    assert_ne!(state.find(file, path), Err(Refusal::BadArgument));
     let _ = state.key(path);
-    let _ = check_image(1, digest, 1, path);
+    let _ = check_image(1, file, 1, path);
+    let _ = sha256(file);
     looked(file);
 }
 
@@ -111,10 +112,10 @@ fn no_bytes() {
     for mut state in [State::blank(), middle()] {
         assert_eq!(state.root(&[], &[], &[]), Err(Refusal::NotText));
         assert_eq!(state.timestamp(&[], &[]), Err(Refusal::NotText));
-        assert_eq!(state.snapshot(&[], &[], &[]), Err(Refusal::NotText));
-        assert_eq!(state.targets(&[], &[], &[]), Err(Refusal::NotText));
-        assert_eq!(state.find(&[], &[], &[]), Err(Refusal::NotText));
-        offer(&state, &[], &[], &[], &[]);
+        assert_eq!(state.snapshot(&[], &[]), Err(Refusal::NotText));
+        assert_eq!(state.targets(&[], &[]), Err(Refusal::NotText));
+        assert_eq!(state.find(&[], &[]), Err(Refusal::NotText));
+        offer(&state, &[], &[], &[]);
     }
     assert_eq!(State::install(&[], &[], 0).unwrap_err(), Refusal::NotText);
     assert_eq!(State::blank().key(&[]), Err(Refusal::NotHeld));
@@ -128,18 +129,10 @@ fn no_bytes() {
 
 #[test]
 fn a_refusal_is_zeros() {
-    let (file, digest, path) = (shelf("targets-3.json"), [0u8; 32], b"gate-firmware.img");
+    let (file, path) = (shelf("targets-3.json"), b"gate-firmware.img");
     let image = unsafe {
         let state = raw::gronwythal_blank();
-        raw::gronwythal_find(
-            state,
-            file.as_ptr(),
-            file.len(),
-            digest.as_ptr(),
-            32,
-            path.as_ptr(),
-            path.len(),
-        )
+        raw::gronwythal_find(state, file.as_ptr(), file.len(), path.as_ptr(), path.len())
     };
     assert_eq!((image.answer, image.length, image.digest), (6, 0, [0; 32]));
     let key = unsafe { raw::gronwythal_key(raw::gronwythal_blank(), path.as_ptr(), path.len()) };
@@ -152,8 +145,8 @@ fn a_refusal_is_zeros() {
 fn noise() {
     let (mut noise, state) = (Noise(1), middle());
     for _ in 0..2000 {
-        let (file, row, digest) = (noise.bytes(200), noise.bytes(3), noise.bytes(40));
-        offer(&state, &file, &row, &digest, &noise.bytes(70));
+        let (file, row) = (noise.bytes(200), noise.bytes(3));
+        offer(&state, &file, &row, &noise.bytes(70));
     }
 }
 
@@ -173,7 +166,7 @@ fn damaged_files() {
         let file = noise.damaged(&files[turn % files.len()]);
         canonical += usize::from(is_canonical(&file));
         let row: &[u8] = if turn % files.len() == 0 { &[1, 1] } else { &[1] };
-        offer(&state, &file, row, &[3; 32], b"gate-firmware.img");
+        offer(&state, &file, row, b"gate-firmware.img");
     }
     // Not all of it stops at the first test.
     assert!((100..2900).contains(&canonical), "{canonical} of 3000 are canonical");
@@ -192,7 +185,7 @@ fn whole_files_at_every_call() {
     for state in [State::blank(), middle()] {
         for file in names.map(shelf) {
             for row in [&[1u8, 1][..], &[1], &[0, 1], &[2], &[]] {
-                offer(&state, &file, row, &[0; 32], b"gate-firmware.img");
+                offer(&state, &file, row, b"gate-firmware.img");
             }
         }
     }
@@ -201,7 +194,7 @@ fn whole_files_at_every_call() {
 #[test]
 fn lengths_beyond_the_limit() {
     let long = vec![b'['; 1 << 20];
-    offer(&middle(), &long, &long, &long, &long);
+    offer(&middle(), &long, &long, &long);
     for length in [32767, 32768, 32769] {
         looked(&vec![b'0'; length]);
         looked(format!("\"{}\"", "x".repeat(length - 2)).as_bytes());

@@ -1,11 +1,16 @@
-//! Every refusal, with small files, and each call with the refusals that document 01 gives it. Derived by hand from document 01.
+//! Every refusal, with small files, and each call with the refusals that document 01 gives it. Derived by hand from document 01; the
+//! digests are those that `sha256sum` gives.
 
 use gronwythal::{Refusal, State, check_image, entry, is_canonical, look, signed_part};
 use std::collections::BTreeSet;
 
 // ---- Small files: one key signs every role
 
-const KEYID: &str = "aaaaaaaaaaaaaaaaaaaaaaaaaaaaaaaaaaaaaaaaaaaaaaaaaaaaaaaaaaaaaaaa";
+const KEY: &str = r#"{"keytype":"ed25519","keyval":{"public":"bbbbbbbbbbbbbbbbbbbbbbbbbbbbbbbbbbbbbbbbbbbbbbbbbbbbbbbbbbbbbbbb"},"scheme":"ed25519"}"#;
+const KEYID: &str = "72164dd0dd21502e17f1d57bfb21b4a44ec536df765ca2c57fdc9514846c4a7c"; // of KEY
+/// The same key with members that no form names.
+const ANNOTATED: &str = r#"{"keytype":"ed25519","keyval":{"note":"é","public":"bbbbbbbbbbbbbbbbbbbbbbbbbbbbbbbbbbbbbbbbbbbbbbbbbbbbbbbbbbbbbbbb"},"scheme":"ed25519","x":["\"\\"]}"#;
+const ANNOTATED_KEYID: &str = "bd35653e86e909102266f0374b792b9153d20e84ecaf723ccdcac1955094fa65"; // of ANNOTATED
 const STRANGER: &str = "cccccccccccccccccccccccccccccccccccccccccccccccccccccccccccccccc";
 const FAR: &str = "2030-01-01T00:00:00Z"; // 1893456000
 
@@ -16,10 +21,8 @@ fn envelope(keyid: &str, signed: &str) -> Vec<u8> {
 
 fn root_of(version: u64, expires: &str, spec: &str) -> Vec<u8> {
     let role = format!(r#"{{"keyids":["{KEYID}"],"threshold":1}}"#);
-    let public = "b".repeat(64);
-    let key = format!(r#"{{"keytype":"ed25519","keyval":{{"public":"{public}"}},"scheme":"ed25519"}}"#);
     let signed = format!(
-        r#"{{"_type":"root","consistent_snapshot":false,"expires":"{expires}","keys":{{"{KEYID}":{key}}},"roles":{{"root":{role},"snapshot":{role},"targets":{role},"timestamp":{role}}},"spec_version":"{spec}","version":{version}}}"#
+        r#"{{"_type":"root","consistent_snapshot":false,"expires":"{expires}","keys":{{"{KEYID}":{KEY}}},"roles":{{"root":{role},"snapshot":{role},"targets":{role},"timestamp":{role}}},"spec_version":"{spec}","version":{version}}}"#
     );
     envelope(KEYID, &signed)
 }
@@ -76,7 +79,8 @@ fn targets(version: u64, expires: &str) -> Vec<u8> {
 }
 
 const GOOD: &[u8] = &[1];
-const DIGEST: &[u8] = &[7; 32];
+const SNAPSHOT_DIGEST: &str = "9c974a24a36f024898d9f37fac45c5fb306f50b363523d21e409dcde6996d243"; // of snapshot(3, "", FAR)
+const TARGETS_DIGEST: &str = "2e19a55450b45796079a7042bc545b05ccc3ae9289ccfd5bb679632356130044"; // of targets(1, FAR)
 
 fn installed() -> State {
     State::install(&root(1), GOOD, 0).unwrap()
@@ -90,13 +94,13 @@ fn with_timestamp() -> State {
 
 fn with_snapshot() -> State {
     let mut state = with_timestamp();
-    state.snapshot(&snapshot(3, "", FAR), GOOD, DIGEST).unwrap();
+    state.snapshot(&snapshot(3, "", FAR), GOOD).unwrap();
     state
 }
 
 fn with_targets() -> State {
     let mut state = with_snapshot();
-    state.targets(&targets(1, FAR), GOOD, DIGEST).unwrap();
+    state.targets(&targets(1, FAR), GOOD).unwrap();
     state
 }
 
@@ -143,6 +147,13 @@ fn at(mut state: State, start: i64) -> State {
     state
 }
 
+fn undone(hex: &str) -> Vec<u8> {
+    (0..hex.len())
+        .step_by(2)
+        .map(|at| u8::from_str_radix(&hex[at..at + 2], 16).unwrap())
+        .collect()
+}
+
 fn changed(file: Vec<u8>, from: &str, to: &str) -> Vec<u8> {
     let text = String::from_utf8(file).unwrap();
     assert!(text.contains(from));
@@ -153,8 +164,18 @@ fn too_long() -> Vec<u8> {
     vec![b' '; 32769]
 }
 
+/// The file with another keyid in each place of `KEYID`.
+fn renamed(file: Vec<u8>, keyid: &str) -> Vec<u8> {
+    String::from_utf8(file).unwrap().replace(KEYID, keyid).into_bytes()
+}
+
+/// A root whose keyid is not the digest of its key.
+fn misnamed(version: u64) -> Vec<u8> {
+    renamed(root(version), STRANGER)
+}
+
 #[test]
-fn install_uses_1_to_5_and_10() {
+fn install_uses_1_to_5_and_10_and_16() {
     let refused = |file: &[u8], row: &[u8]| State::install(file, row, 9).unwrap_err().number();
     assert_eq!(refused(&too_long(), GOOD), 1);
     assert_eq!(refused(&[], GOOD), 2);
@@ -163,6 +184,7 @@ fn install_uses_1_to_5_and_10() {
     assert_eq!(refused(&root(1), &[]), 5);
     assert_eq!(refused(&root(1), &[2]), 5);
     assert_eq!(refused(&root(1), &[0]), 10);
+    assert_eq!(refused(&misnamed(1), GOOD), 16);
 }
 
 #[test]
@@ -193,7 +215,7 @@ fn an_accepted_install_holds_the_root_alone() {
 }
 
 #[test]
-fn root_uses_1_to_6_and_9_to_11() {
+fn root_uses_1_to_6_and_9_to_11_and_16() {
     Seen::on(installed())
         .step(1, |s| s.root(&too_long(), GOOD, GOOD))
         .step(2, |s| s.root(b"[1,]", GOOD, GOOD))
@@ -205,12 +227,66 @@ fn root_uses_1_to_6_and_9_to_11() {
         .step(10, |s| s.root(&root(2), GOOD, &[0]))
         .step(11, |s| s.root(&root(1), GOOD, GOOD))
         .step(11, |s| s.root(&root(3), GOOD, GOOD))
+        .step(16, |s| s.root(&misnamed(2), GOOD, GOOD))
         .from(State::blank())
         .step(6, |s| s.root(&root(1), GOOD, GOOD))
-        .saw(&[1, 2, 3, 4, 5, 6, 9, 10, 11]);
+        .saw(&[1, 2, 3, 4, 5, 6, 9, 10, 11, 16]);
     let mut state = installed();
     assert_eq!(state.root(&root(2), GOOD, GOOD), Ok(()));
     assert_eq!(state.versions().root, Some(2));
+}
+
+#[test]
+fn a_keyid_with_any_other_digit_is_16() {
+    for digit in 0..64 {
+        let here = KEYID.as_bytes()[digit] as char;
+        for other in "0123456789abcdef".chars().filter(|other| *other != here) {
+            let keyid = format!("{}{other}{}", &KEYID[..digit], &KEYID[digit + 1..]);
+            let install = State::install(&renamed(root(1), &keyid), GOOD, 9);
+            assert_eq!(install.unwrap_err(), Refusal::OtherKeyid, "{keyid}");
+            let root = installed().root(&renamed(root(2), &keyid), GOOD, GOOD);
+            assert_eq!(root, Err(Refusal::OtherKeyid), "{keyid}");
+        }
+    }
+}
+
+#[test]
+fn a_keyid_is_the_digest_of_the_whole_text_of_its_key() {
+    let install = |file: &[u8]| State::install(file, GOOD, 9).map(|_| ());
+    let annotated = changed(root(1), KEY, ANNOTATED);
+    assert_eq!(install(&renamed(annotated.clone(), ANNOTATED_KEYID)), Ok(()));
+    assert_eq!(install(&annotated), Err(Refusal::OtherKeyid));
+    assert_eq!(install(&renamed(root(1), ANNOTATED_KEYID)), Err(Refusal::OtherKeyid));
+    // Both keyids are true, but the public value is one and the same.
+    let both = format!(r#""keys":{{"{KEYID}":{KEY},"{ANNOTATED_KEYID}":{ANNOTATED}}}"#);
+    let twice = changed(root(1), &format!(r#""keys":{{"{KEYID}":{KEY}}}"#), &both);
+    assert_eq!(install(&twice), Err(Refusal::BadForm));
+}
+
+#[test]
+fn a_keyid_is_judged_after_the_form_and_before_spec_version() {
+    let other_spec = renamed(root_of(2, FAR, "2.0"), STRANGER);
+    let bad_form = changed(other_spec.clone(), r#""threshold":1"#, r#""threshold":0"#);
+    let upper_case = renamed(root_of(2, FAR, "2.0"), &STRANGER.to_uppercase());
+    let in_the_table_alone = changed(root(2), &format!(r#""{KEYID}":"#), &format!(r#""{STRANGER}":"#));
+    let cut = &bad_form[..bad_form.len() - 1];
+    for (file, stated) in [
+        (&too_long()[..], 1),
+        (cut, 2),
+        (&bad_form, 3),
+        (&upper_case, 3),
+        (&in_the_table_alone, 3),
+        (&other_spec, 16),
+        (&misnamed(2), 16),
+    ] {
+        // The rows would be refused with 5, 9 and 10, the version with 11 and the blank state with 6.
+        for row in [GOOD, &[0], &[2], &[]] {
+            assert_eq!(State::install(file, row, 9).unwrap_err().number(), stated);
+            for mut state in [State::blank(), installed(), State::install(&root(2), GOOD, 9).unwrap()] {
+                assert_eq!(state.root(file, row, row).unwrap_err().number(), stated);
+            }
+        }
+    }
 }
 
 #[test]
@@ -243,128 +319,113 @@ fn timestamp_uses_1_to_7_and_9_and_11_to_14() {
 #[test]
 fn snapshot_uses_1_to_9_and_11_and_13_and_14() {
     let file = snapshot(3, "", FAR);
-    let measured = |length: usize| {
-        let listed = format!(r#"{{"length":{length},"version":3}}"#);
-        changed(timestamp(5, 3, FAR), r#"{"version":3}"#, &listed)
-    };
-    let listing = |length: usize| {
+    let listing = |listed: &str| {
         let mut state = installed();
-        state.timestamp(&measured(length), GOOD).unwrap();
+        let timestamp = changed(timestamp(5, 3, FAR), r#"{"version":3}"#, listed);
+        state.timestamp(&timestamp, GOOD).unwrap();
         state
     };
+    let measured = |length: usize| listing(&format!(r#"{{"length":{length},"version":3}}"#));
+    let hashed = |digest: &str| listing(&format!(r#"{{"hashes":{{"sha256":"{digest}"}},"version":3}}"#));
     let named = {
         let mut state = with_timestamp();
         state
-            .snapshot(&snapshot(3, r#""other.json":{"version":4},"#, FAR), GOOD, DIGEST)
+            .snapshot(&snapshot(3, r#""other.json":{"version":4},"#, FAR), GOOD)
             .unwrap();
         state
     };
     Seen::on(with_timestamp())
-        .step(1, |s| s.snapshot(&too_long(), GOOD, DIGEST))
-        .step(2, |s| s.snapshot(b"", GOOD, DIGEST))
-        .step(3, |s| s.snapshot(&root(1), GOOD, DIGEST))
+        .step(1, |s| s.snapshot(&too_long(), GOOD))
+        .step(2, |s| s.snapshot(b"", GOOD))
+        .step(3, |s| s.snapshot(&root(1), GOOD))
         .step(4, |s| {
-            s.snapshot(
-                &changed(file.clone(), r#"version":"1""#, r#"version":"""#),
-                GOOD,
-                DIGEST,
-            )
+            s.snapshot(&changed(file.clone(), r#"version":"1""#, r#"version":"""#), GOOD)
         })
-        .step(5, |s| s.snapshot(&file, &[1, 0], DIGEST))
-        .step(5, |s| s.snapshot(&file, GOOD, &DIGEST[1..]))
-        .step(9, |s| s.snapshot(&file, &[0], DIGEST))
-        .step(11, |s| s.snapshot(&snapshot(4, "", FAR), GOOD, DIGEST))
-        .step(14, |s| {
-            s.snapshot(&snapshot(3, "", "1970-01-01T00:00:00Z"), GOOD, DIGEST)
-        })
+        .step(5, |s| s.snapshot(&file, &[1, 0]))
+        .step(9, |s| s.snapshot(&file, &[0]))
+        .step(11, |s| s.snapshot(&snapshot(4, "", FAR), GOOD))
+        .step(14, |s| s.snapshot(&snapshot(3, "", "1970-01-01T00:00:00Z"), GOOD))
         .from(at(with_timestamp(), 1893456000))
-        .step(7, |s| s.snapshot(&file, GOOD, DIGEST))
-        .from(listing(file.len() + 1))
-        .step(8, |s| s.snapshot(&file, GOOD, DIGEST))
+        .step(7, |s| s.snapshot(&file, GOOD))
+        .from(measured(file.len() + 1))
+        .step(8, |s| s.snapshot(&file, GOOD))
+        .from(hashed(TARGETS_DIGEST))
+        .step(8, |s| s.snapshot(&file, GOOD))
         .from(named)
-        .step(13, |s| s.snapshot(&file, GOOD, DIGEST))
+        .step(13, |s| s.snapshot(&file, GOOD))
         .step(13, |s| {
-            s.snapshot(&snapshot(3, r#""other.json":{"version":3},"#, FAR), GOOD, DIGEST)
+            s.snapshot(&snapshot(3, r#""other.json":{"version":3},"#, FAR), GOOD)
         })
         .from(installed())
-        .step(6, |s| s.snapshot(&file, GOOD, DIGEST))
+        .step(6, |s| s.snapshot(&file, GOOD))
         .saw(&[1, 2, 3, 4, 5, 6, 7, 8, 9, 11, 13, 14]);
-    assert_eq!(listing(file.len()).snapshot(&file, GOOD, DIGEST), Ok(()));
+    assert_eq!(measured(file.len()).snapshot(&file, GOOD), Ok(()));
+    assert_eq!(hashed(SNAPSHOT_DIGEST).snapshot(&file, GOOD), Ok(()));
 }
 
 #[test]
 fn targets_uses_1_to_9_and_11_and_14() {
     let file = targets(1, FAR);
-    let hashed = format!(r#"{{"hashes":{{"sha256":"{}"}},"version":1}}"#, "08".repeat(32));
-    let listing = {
+    let hashed = |digest: &str| {
+        let listed = format!(r#"{{"hashes":{{"sha256":"{digest}"}},"version":1}}"#);
         let mut state = with_timestamp();
-        let snapshot = changed(snapshot(3, "", FAR), r#"{"version":1}"#, &hashed);
-        state.snapshot(&snapshot, GOOD, DIGEST).unwrap();
+        let snapshot = changed(snapshot(3, "", FAR), r#"{"version":1}"#, &listed);
+        state.snapshot(&snapshot, GOOD).unwrap();
         state
     };
     Seen::on(with_snapshot())
-        .step(1, |s| s.targets(&too_long(), GOOD, DIGEST))
-        .step(2, |s| s.targets(b"", GOOD, DIGEST))
-        .step(3, |s| s.targets(&root(1), GOOD, DIGEST))
+        .step(1, |s| s.targets(&too_long(), GOOD))
+        .step(2, |s| s.targets(b"", GOOD))
+        .step(3, |s| s.targets(&root(1), GOOD))
         .step(4, |s| {
-            s.targets(
-                &changed(file.clone(), r#"version":"1""#, r#"version":"2""#),
-                GOOD,
-                DIGEST,
-            )
+            s.targets(&changed(file.clone(), r#"version":"1""#, r#"version":"2""#), GOOD)
         })
-        .step(5, |s| s.targets(&file, GOOD, &[]))
-        .step(9, |s| s.targets(&file, &[0], DIGEST))
-        .step(11, |s| s.targets(&targets(2, FAR), GOOD, DIGEST))
-        .step(14, |s| s.targets(&targets(1, "1970-01-01T00:00:00Z"), GOOD, DIGEST))
+        .step(5, |s| s.targets(&file, &[]))
+        .step(9, |s| s.targets(&file, &[0]))
+        .step(11, |s| s.targets(&targets(2, FAR), GOOD))
+        .step(14, |s| s.targets(&targets(1, "1970-01-01T00:00:00Z"), GOOD))
         .from(at(with_snapshot(), 1893456000))
-        .step(7, |s| s.targets(&file, GOOD, DIGEST))
-        .from(listing.clone())
-        .step(8, |s| s.targets(&file, GOOD, DIGEST))
+        .step(7, |s| s.targets(&file, GOOD))
+        .from(hashed(SNAPSHOT_DIGEST))
+        .step(8, |s| s.targets(&file, GOOD))
         .from(with_timestamp())
-        .step(6, |s| s.targets(&file, GOOD, DIGEST))
+        .step(6, |s| s.targets(&file, GOOD))
         .saw(&[1, 2, 3, 4, 5, 6, 7, 8, 9, 11, 14]);
-    assert_eq!(listing.clone().targets(&file, GOOD, &[8; 32]), Ok(()));
+    assert_eq!(hashed(TARGETS_DIGEST).targets(&file, GOOD), Ok(()));
 }
 
 #[test]
-fn find_uses_1_to_8_and_15() {
+fn find_uses_1_to_4_and_6_to_8_and_15() {
     let file = targets(1, FAR);
     let state = with_targets();
-    let refused =
-        |state: &State, file: &[u8], digest: &[u8], path: &[u8]| state.find(file, digest, path).unwrap_err().number();
-    assert_eq!(refused(&state, &too_long(), DIGEST, b"i"), 1);
-    assert_eq!(refused(&state, b"", DIGEST, b"i"), 2);
-    assert_eq!(refused(&state, &root(1), DIGEST, b"i"), 3);
-    assert_eq!(
-        refused(
-            &state,
-            &changed(file.clone(), r#"version":"1""#, r#"version":"2""#),
-            DIGEST,
-            b"i"
-        ),
-        4
-    );
-    assert_eq!(refused(&state, &file, &[7; 33], b"i"), 5);
-    assert_eq!(refused(&with_snapshot(), &file, DIGEST, b"i"), 6);
-    assert_eq!(refused(&at(with_targets(), 1893456000), &file, DIGEST, b"i"), 7);
-    assert_eq!(refused(&state, &file, &[8; 32], b"i"), 8);
-    assert_eq!(refused(&state, &file, DIGEST, b"j"), 15);
-    assert_eq!(refused(&state, &file, DIGEST, b""), 15);
-    assert_eq!(refused(&state, &file, DIGEST, &[b'i'; 129]), 15);
-    let image = state.find(&file, DIGEST, b"i").unwrap();
+    let other_spec = changed(file.clone(), r#"version":"1""#, r#"version":"2""#);
+    let other_length = changed(file.clone(), r#""length":5"#, r#""length":6"#);
+    let other_signature = changed(file.clone(), r#""sig":"0"#, r#""sig":"1"#);
+    let refused = |state: &State, file: &[u8], path: &[u8]| state.find(file, path).unwrap_err().number();
+    assert_eq!(refused(&state, &too_long(), b"i"), 1);
+    assert_eq!(refused(&state, b"", b"i"), 2);
+    assert_eq!(refused(&state, &root(1), b"i"), 3);
+    assert_eq!(refused(&state, &other_spec, b"i"), 4);
+    assert_eq!(refused(&with_snapshot(), &file, b"i"), 6);
+    assert_eq!(refused(&at(with_targets(), 1893456000), &file, b"i"), 7);
+    assert_eq!(refused(&state, &other_length, b"i"), 8);
+    assert_eq!(refused(&state, &other_signature, b"i"), 8);
+    assert_eq!(refused(&state, &file, b"j"), 15);
+    assert_eq!(refused(&state, &file, b""), 15);
+    assert_eq!(refused(&state, &file, &[b'i'; 129]), 15);
+    let image = state.find(&file, b"i").unwrap();
     assert_eq!((image.length, image.digest), (5, [0x11; 32]));
 }
 
 #[test]
 fn an_image_uses_5_and_8() {
-    let image = with_targets().find(&targets(1, FAR), DIGEST, b"i").unwrap();
+    let image = with_targets().find(&targets(1, FAR), b"i").unwrap();
     assert_eq!(image.check(5, &[0x11; 32]), Ok(()));
     assert_eq!(image.check(4, &[0x11; 32]), Err(Refusal::OtherContent));
     assert_eq!(image.check(5, &[0x12; 32]), Err(Refusal::OtherContent));
     assert_eq!(image.check(5, &[0x11; 31]), Err(Refusal::BadArgument));
-    assert_eq!(check_image(u64::MAX, DIGEST, u64::MAX, DIGEST), Ok(()));
-    assert_eq!(check_image(1, &[], 2, DIGEST), Err(Refusal::BadArgument));
+    assert_eq!(check_image(u64::MAX, &[7; 32], u64::MAX, &[7; 32]), Ok(()));
+    assert_eq!(check_image(1, &[], 2, &[7; 32]), Err(Refusal::BadArgument));
     assert_eq!(check_image(1, &[], 1, &[]), Err(Refusal::BadArgument));
 }
 
@@ -376,7 +437,7 @@ fn a_key_uses_6_and_15() {
     assert_eq!(State::blank().key(b"no keyid"), Err(Refusal::NotHeld));
     assert_eq!(state.key(STRANGER.as_bytes()), Err(Refusal::NotListed));
     assert_eq!(state.key(KEYID.to_uppercase().as_bytes()), Err(Refusal::NotListed));
-    assert_eq!(state.key(&[0xaa; 32]), Err(Refusal::NotListed));
+    assert_eq!(state.key(&undone(KEYID)), Err(Refusal::NotListed));
     assert_eq!(state.key(b""), Err(Refusal::NotListed));
 }
 
@@ -393,7 +454,7 @@ fn looking_in_uses_1_to_3_and_an_entry_15() {
     assert_eq!(entry(&file, 1), Err(Refusal::NotListed));
     assert_eq!(entry(&file, usize::MAX), Err(Refusal::NotListed));
     let read = entry(&file, 0).unwrap();
-    assert_eq!((read.keyid, read.sig), ([0xaa; 32], [0; 64]));
+    assert_eq!((&read.keyid[..], read.sig), (&undone(KEYID)[..], [0; 64]));
     assert_eq!(read.keyid_hex(), *KEYID.as_bytes().first_chunk::<64>().unwrap());
     let part = signed_part(&file).unwrap();
     assert!(part.starts_with(br#"{"_type":"root","#) && part.ends_with(br#""version":1}"#));
@@ -412,16 +473,16 @@ fn text_alone() {
 
 #[test]
 fn refusals_have_the_numbers_and_words_of_the_paper() {
-    for (refusal, number) in Refusal::ALL.into_iter().zip(1..=15) {
+    for (refusal, number) in Refusal::ALL.into_iter().zip(1..=16) {
         assert_eq!(refusal.number(), number);
         assert_eq!(Refusal::numbered(number), Some(refusal));
     }
     assert_eq!(Refusal::numbered(0), None);
-    assert_eq!(Refusal::numbered(16), None);
+    assert_eq!(Refusal::numbered(17), None);
     assert_eq!(Refusal::WrongVersion.number(), 11);
     assert_eq!(Refusal::NoNews.to_string(), "same timestamp version: normal, no news");
     let words: BTreeSet<String> = Refusal::ALL.iter().map(Refusal::to_string).collect();
-    assert_eq!(words.len(), 15);
+    assert_eq!(words.len(), 16);
 }
 
 #[test]

@@ -1,7 +1,7 @@
 //! The stories of examples/shelf through this crate. A line `#= ANSWER` behind a call has its answer, derived by hand from document 01; its
 //! words must be the first of what the call answers. Calls and answers have the form of docs/REPLAY.md.
 
-use gronwythal::{Refusal, State, Versions, check_image, entry, look};
+use gronwythal::{Refusal, State, Versions, check_image, entry, look, sha256};
 use std::fs;
 use std::path::{Path, PathBuf};
 
@@ -68,8 +68,8 @@ fn played(state: &mut State, line: &str) -> String {
         }
         "root" => number(&state.root(&arg(1), &arg(2), &arg(3))),
         "timestamp" => number(&state.timestamp(&arg(1), &arg(2))),
-        "snapshot" => number(&state.snapshot(&arg(1), &arg(2), &arg(3))),
-        "targets" => number(&state.targets(&arg(1), &arg(2), &arg(3))),
+        "snapshot" => number(&state.snapshot(&arg(1), &arg(2))),
+        "targets" => number(&state.targets(&arg(1), &arg(2))),
         _ => return asked(state, &words),
     };
     format!("{call} {step} {}", shown(state.versions()))
@@ -80,7 +80,7 @@ fn asked(state: &State, words: &[&str]) -> String {
     let arg = |i: usize| bytes(words[i]);
     let count = |i: usize| words[i].parse().unwrap();
     match words[0] {
-        "find" => match state.find(&arg(1), &arg(2), &arg(3)) {
+        "find" => match state.find(&arg(1), &arg(2)) {
             Ok(image) => format!("find 0 {} {}", image.length, hex(&image.digest)),
             Err(refusal) => format!("find {} 0", refusal.number()),
         },
@@ -88,6 +88,7 @@ fn asked(state: &State, words: &[&str]) -> String {
             Ok(public) => format!("key 0 {}", hex(&public)),
             Err(refusal) => format!("key {}", refusal.number()),
         },
+        "sha256" => format!("sha256 {}", hex(&sha256(&arg(1)))),
         "image" => format!("image {}", number(&check_image(count(1), &arg(2), count(3), &arg(4)))),
         other => panic!("no call of the stories: {other}"),
     }
@@ -121,7 +122,7 @@ fn play(name: &str) -> usize {
 
 #[test]
 fn an_update() {
-    assert_eq!(play("1-update.txt"), 12);
+    assert_eq!(play("1-update.txt"), 13);
 }
 
 #[test]
@@ -139,7 +140,28 @@ fn an_expired_list() {
     assert_eq!(play("4-expired-list.txt"), 13);
 }
 
+#[test]
+fn another_key() {
+    assert_eq!(play("5-other-key.txt"), 11);
+}
+
 // ---- What the stories do not ask
+
+/// The last digit of a keyid leaves the key table in order.
+#[test]
+fn every_keyid_of_a_key_table_is_judged() {
+    let file = String::from_utf8(bytes("@root-1.json")).unwrap();
+    let keyids: Vec<&str> = file
+        .match_indices(r#"":{"keytype""#)
+        .map(|(end, _)| &file[end - 64..end])
+        .collect();
+    assert_eq!(keyids.len(), 5);
+    for keyid in keyids {
+        let other = format!("{}{}", &keyid[..63], if keyid.ends_with('0') { '1' } else { '0' });
+        let install = State::install(file.replace(keyid, &other).as_bytes(), &[1, 1], 0);
+        assert_eq!(install.unwrap_err(), Refusal::OtherKeyid, "{keyid}");
+    }
+}
 
 #[test]
 fn a_held_key_is_that_of_the_file() {

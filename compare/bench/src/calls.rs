@@ -13,6 +13,8 @@ pub type Bytes = Rc<[u8]>;
 pub enum Call {
     /// Whether a text is canonical.
     Text(Bytes),
+    /// The digest of any bytes.
+    Sha256(Bytes),
     /// Install, of a root and its verdicts.
     Install(Bytes, Bytes, i64),
     /// New cycle.
@@ -21,19 +23,20 @@ pub enum Call {
     Root(Bytes, Bytes),
     /// Timestamp, and its verdicts.
     Timestamp(Bytes, Bytes),
-    /// Snapshot, its verdicts and its digest.
-    Snapshot(Bytes, Bytes, Bytes),
-    /// Targets, its verdicts and its digest.
-    Targets(Bytes, Bytes, Bytes),
-    /// Find: the targets file, its digest and a path.
-    Find(Bytes, Bytes, Bytes),
+    /// Snapshot, and its verdicts.
+    Snapshot(Bytes, Bytes),
+    /// Targets, and its verdicts.
+    Targets(Bytes, Bytes),
+    /// Find: the targets file and a path.
+    Find(Bytes, Bytes),
 }
 
 impl Call {
-    /// How many bytes the text or file has.
+    /// How many bytes the text, message or file has.
     pub fn bytes(&self) -> usize {
         match self {
             Call::Text(file)
+            | Call::Sha256(file)
             | Call::Install(file, ..)
             | Call::Root(file, ..)
             | Call::Timestamp(file, ..)
@@ -49,6 +52,10 @@ impl Call {
 pub fn play<C: Client>(state: &mut C, call: &Call) -> Found {
     match black_box(call) {
         Call::Text(text) => answer(if C::is_canonical(text) { 0 } else { 2 }),
+        Call::Sha256(message) => Found {
+            digest: C::sha256(message),
+            ..answer(0)
+        },
         Call::Install(file, row, start) => {
             let (number, installed) = C::install(file, row, *start);
             *state = installed;
@@ -57,9 +64,9 @@ pub fn play<C: Client>(state: &mut C, call: &Call) -> Found {
         Call::NewCycle(start) => answer(state.new_cycle(*start)),
         Call::Root(file, row) => answer(state.root(file, row, row)),
         Call::Timestamp(file, row) => answer(state.timestamp(file, row)),
-        Call::Snapshot(file, row, digest) => answer(state.snapshot(file, row, digest)),
-        Call::Targets(file, row, digest) => answer(state.targets(file, row, digest)),
-        Call::Find(file, digest, path) => state.find(file, digest, path),
+        Call::Snapshot(file, row) => answer(state.snapshot(file, row)),
+        Call::Targets(file, row) => answer(state.targets(file, row)),
+        Call::Find(file, path) => state.find(file, path),
     }
 }
 

@@ -1,6 +1,6 @@
 //! What is measured, in a form that all sides have.
 
-use common::{Forms, State, number_of};
+use common::{Forms, State, number_of, sha256};
 
 /// A side of the comparison: its calls answer by 01's numbers.
 pub trait Client: Clone {
@@ -9,6 +9,9 @@ pub trait Client: Clone {
 
     /// Whether the text is canonical.
     fn is_canonical(text: &[u8]) -> bool;
+
+    /// The digest of a message.
+    fn sha256(message: &[u8]) -> [u8; 32];
 
     /// Install, and the state after it.
     fn install(file: &[u8], row: &[u8], start: i64) -> (u8, Self);
@@ -23,26 +26,26 @@ pub trait Client: Clone {
     fn timestamp(&mut self, file: &[u8], row: &[u8]) -> u8;
 
     /// Snapshot.
-    fn snapshot(&mut self, file: &[u8], row: &[u8], digest: &[u8]) -> u8;
+    fn snapshot(&mut self, file: &[u8], row: &[u8]) -> u8;
 
     /// Targets.
-    fn targets(&mut self, file: &[u8], row: &[u8], digest: &[u8]) -> u8;
+    fn targets(&mut self, file: &[u8], row: &[u8]) -> u8;
 
     /// Find.
-    fn find(&self, file: &[u8], digest: &[u8], path: &[u8]) -> Found;
+    fn find(&self, file: &[u8], path: &[u8]) -> Found;
 
     /// What is held.
     fn versions(&self) -> Versions;
 }
 
-/// What find gives; zeros where it is refused.
+/// What find gives; zeros where it is refused. Of a digest asked for, only that.
 #[derive(Clone, Debug, PartialEq, Eq)]
 pub struct Found {
     /// 01's number.
     pub answer: u8,
     /// The listed length.
     pub length: u64,
-    /// The listed digest.
+    /// The listed digest, or the one asked for.
     pub digest: [u8; 32],
 }
 
@@ -64,6 +67,10 @@ impl<F: Forms + Clone> Client for State<F> {
         F::is_canonical(text)
     }
 
+    fn sha256(message: &[u8]) -> [u8; 32] {
+        sha256::digest(message)
+    }
+
     fn install(file: &[u8], row: &[u8], start: i64) -> (u8, Self) {
         let result = State::install(file, row, start);
         (number_of(&result), result.unwrap_or_default())
@@ -82,16 +89,16 @@ impl<F: Forms + Clone> Client for State<F> {
         number_of(&self.timestamp(file, row))
     }
 
-    fn snapshot(&mut self, file: &[u8], row: &[u8], digest: &[u8]) -> u8 {
-        number_of(&self.snapshot(file, row, digest))
+    fn snapshot(&mut self, file: &[u8], row: &[u8]) -> u8 {
+        number_of(&self.snapshot(file, row))
     }
 
-    fn targets(&mut self, file: &[u8], row: &[u8], digest: &[u8]) -> u8 {
-        number_of(&self.targets(file, row, digest))
+    fn targets(&mut self, file: &[u8], row: &[u8]) -> u8 {
+        number_of(&self.targets(file, row))
     }
 
-    fn find(&self, file: &[u8], digest: &[u8], path: &[u8]) -> Found {
-        match self.find(file, digest, path) {
+    fn find(&self, file: &[u8], path: &[u8]) -> Found {
+        match self.find(file, path) {
             Ok(target) => Found {
                 answer: 0,
                 length: target.length,

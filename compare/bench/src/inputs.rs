@@ -64,7 +64,6 @@ pub struct Release {
     timestamp: Bytes,
     snapshot: Bytes,
     targets: Bytes,
-    targets_digest: Bytes,
     paths: Vec<String>,
 }
 
@@ -79,7 +78,6 @@ impl Release {
             root: maker.root().into(),
             timestamp: maker.timestamp(&snapshot).into(),
             snapshot: snapshot.into(),
-            targets_digest: digest(&targets).to_vec().into(),
             targets: targets.into(),
             paths,
         }
@@ -108,11 +106,7 @@ impl Release {
     pub fn finds(&self, count: usize) -> Vec<Call> {
         let find = |number: usize| {
             let path = &self.paths[(2 * number + 1) * self.paths.len() / (2 * count)];
-            Call::Find(
-                self.targets.clone(),
-                self.targets_digest.clone(),
-                path.as_bytes().into(),
-            )
+            Call::Find(self.targets.clone(), path.as_bytes().into())
         };
         (0..count).map(find).collect()
     }
@@ -127,12 +121,11 @@ impl Release {
     }
 
     fn snapshot(&self) -> Call {
-        let digest = digest(&self.snapshot).to_vec().into();
-        Call::Snapshot(self.snapshot.clone(), self.row.clone(), digest)
+        Call::Snapshot(self.snapshot.clone(), self.row.clone())
     }
 
     fn targets(&self) -> Call {
-        Call::Targets(self.targets.clone(), self.row.clone(), self.targets_digest.clone())
+        Call::Targets(self.targets.clone(), self.row.clone())
     }
 }
 
@@ -243,6 +236,12 @@ fn shortest_padded(file: &Tree) -> usize {
     file.written().len() + r#","~":"""#.len()
 }
 
+/// So many bytes to be digested.
+pub fn message(shelf: usize, length: usize) -> Call {
+    let mut random = Random::new(shelf as u64, "messages that are measured");
+    Call::Sha256((0..length).map(|_| random.byte()).collect())
+}
+
 /// Strings of plain ASCII.
 pub fn plain_strings(shelf: usize) -> Call {
     let animals = ["cow", "fox", "goat", "horse", "hedgehog"];
@@ -306,7 +305,7 @@ fn array_of(shelf: usize, element: impl Fn(&mut Random) -> Tree) -> Call {
 
 #[cfg(test)]
 mod tests {
-    use super::{Call, LARGE, LONGEST, Release, Size, dense_escapes, multi_byte, plain_strings, small_values};
+    use super::{Call, LARGE, LONGEST, Release, Size, dense_escapes, message, multi_byte, plain_strings, small_values};
     use paper::forms;
     use std::collections::BTreeSet;
 
@@ -326,8 +325,19 @@ mod tests {
     }
 
     #[test]
+    fn messages_differ_from_shelf_to_shelf() {
+        let messages = [0, 1].map(|shelf| match message(shelf, 65_536) {
+            Call::Sha256(message) => message,
+            call => panic!("{call:?}"),
+        });
+        assert_ne!(messages[0], messages[1]);
+        assert_eq!(messages.map(|message| message.len()), [65_536; 2]);
+    }
+
+    #[test]
     fn large_files_are_at_the_limits() {
         let release = Release::new(3, 1, &LARGE);
+        // A root is read only if its keyids are true.
         let root = forms::root(&release.root).unwrap();
         assert_eq!((root.entries.len(), root.says.keys.len()), (16, 16));
         assert_eq!(root.says.snapshot.keyids.len(), 16);
@@ -362,7 +372,7 @@ mod tests {
     #[test]
     fn finds_ask_for_different_paths() {
         let paths = Release::new(0, 1, &LARGE).finds(40).into_iter().map(|call| match call {
-            Call::Find(_, _, path) => path,
+            Call::Find(_, path) => path,
             call => panic!("{call:?}"),
         });
         assert_eq!(paths.collect::<BTreeSet<_>>().len(), 40);

@@ -31,6 +31,12 @@ struct Image {
     digest: [u8; 32],
 }
 
+/// `gw_digest`
+#[repr(C)]
+struct Digest {
+    bytes: [u8; 32],
+}
+
 /// `gw_version`
 #[repr(C)]
 struct HeldVersion {
@@ -62,35 +68,12 @@ unsafe extern "C" {
         own_row_len: usize,
     ) -> Step;
     fn gronwythal_timestamp(state: State, file: *const u8, file_len: usize, row: *const u8, row_len: usize) -> Step;
-    fn gronwythal_snapshot(
-        state: State,
-        file: *const u8,
-        file_len: usize,
-        row: *const u8,
-        row_len: usize,
-        digest: *const u8,
-        digest_len: usize,
-    ) -> Step;
-    fn gronwythal_targets(
-        state: State,
-        file: *const u8,
-        file_len: usize,
-        row: *const u8,
-        row_len: usize,
-        digest: *const u8,
-        digest_len: usize,
-    ) -> Step;
-    fn gronwythal_find(
-        state: State,
-        file: *const u8,
-        file_len: usize,
-        digest: *const u8,
-        digest_len: usize,
-        path: *const u8,
-        path_len: usize,
-    ) -> Image;
+    fn gronwythal_snapshot(state: State, file: *const u8, file_len: usize, row: *const u8, row_len: usize) -> Step;
+    fn gronwythal_targets(state: State, file: *const u8, file_len: usize, row: *const u8, row_len: usize) -> Step;
+    fn gronwythal_find(state: State, file: *const u8, file_len: usize, path: *const u8, path_len: usize) -> Image;
     fn gronwythal_versions(state: State) -> HeldVersions;
     fn gronwythal_is_canonical(text: *const u8, text_len: usize) -> bool;
+    fn gronwythal_sha256(bytes: *const u8, bytes_len: usize) -> Digest;
 }
 
 impl State {
@@ -108,6 +91,10 @@ impl Client for State {
 
     fn is_canonical(text: &[u8]) -> bool {
         unsafe { gronwythal_is_canonical(text.as_ptr(), text.len()) }
+    }
+
+    fn sha256(message: &[u8]) -> [u8; 32] {
+        unsafe { gronwythal_sha256(message.as_ptr(), message.len()) }.bytes
     }
 
     fn install(file: &[u8], row: &[u8], start: i64) -> (u8, State) {
@@ -140,48 +127,18 @@ impl Client for State {
         self.store(step)
     }
 
-    fn snapshot(&mut self, file: &[u8], row: &[u8], digest: &[u8]) -> u8 {
-        let step = unsafe {
-            gronwythal_snapshot(
-                self.clone(),
-                file.as_ptr(),
-                file.len(),
-                row.as_ptr(),
-                row.len(),
-                digest.as_ptr(),
-                digest.len(),
-            )
-        };
+    fn snapshot(&mut self, file: &[u8], row: &[u8]) -> u8 {
+        let step = unsafe { gronwythal_snapshot(self.clone(), file.as_ptr(), file.len(), row.as_ptr(), row.len()) };
         self.store(step)
     }
 
-    fn targets(&mut self, file: &[u8], row: &[u8], digest: &[u8]) -> u8 {
-        let step = unsafe {
-            gronwythal_targets(
-                self.clone(),
-                file.as_ptr(),
-                file.len(),
-                row.as_ptr(),
-                row.len(),
-                digest.as_ptr(),
-                digest.len(),
-            )
-        };
+    fn targets(&mut self, file: &[u8], row: &[u8]) -> u8 {
+        let step = unsafe { gronwythal_targets(self.clone(), file.as_ptr(), file.len(), row.as_ptr(), row.len()) };
         self.store(step)
     }
 
-    fn find(&self, file: &[u8], digest: &[u8], path: &[u8]) -> Found {
-        let image = unsafe {
-            gronwythal_find(
-                self.clone(),
-                file.as_ptr(),
-                file.len(),
-                digest.as_ptr(),
-                digest.len(),
-                path.as_ptr(),
-                path.len(),
-            )
-        };
+    fn find(&self, file: &[u8], path: &[u8]) -> Found {
+        let image = unsafe { gronwythal_find(self.clone(), file.as_ptr(), file.len(), path.as_ptr(), path.len()) };
         Found {
             answer: image.answer,
             length: image.length,

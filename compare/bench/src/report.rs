@@ -6,6 +6,9 @@ use crate::work::Table;
 /// A line above this is named at the end.
 const HIGH: f64 = 1.5;
 
+/// How high the lines that begin with these words may be, each on its own.
+const LIMITS: [(&str, f64); 2] = [("whole cycle", 1.0), ("SHA-256", 1.2)];
+
 /// Linear: the time for each byte of the largest file is at most so many times that of a file of 4 KiB.
 const LINEAR: f64 = 1.5;
 
@@ -135,19 +138,21 @@ fn verdicts(times: &[Row], growth: &[Row]) -> Vec<String> {
         verdicts.extend(growth_verdict(sizes));
     }
     for baseline in Baseline::ALL {
-        let said = cycle_verdicts(times, baseline).chain([high_verdict(times, baseline)]);
+        let said = limit_verdicts(times, baseline).chain([high_verdict(times, baseline)]);
         verdicts.extend(said.map(|said| format!("against {}, {said}", baseline.name())));
     }
     verdicts
 }
 
-/// Whether whole cycles take the library no longer than the baseline.
-fn cycle_verdicts(times: &[Row], baseline: Baseline) -> impl Iterator<Item = String> {
-    let cycles = times.iter().filter(|row| row.name.starts_with("whole cycle"));
-    cycles.map(move |cycle| {
-        let is_low = cycle.ratio(baseline) <= 1.0;
-        let said = if is_low { "at or below" } else { "above" };
-        format!("{said} 1.0: {}", cycle.named(baseline))
+/// Whether the library keeps to the limits that lines of its own have.
+fn limit_verdicts(times: &[Row], baseline: Baseline) -> impl Iterator<Item = String> {
+    LIMITS.into_iter().flat_map(move |(words, limit)| {
+        let limited = times.iter().filter(move |row| row.name.starts_with(words));
+        limited.map(move |row| {
+            let is_low = row.ratio(baseline) <= limit;
+            let said = if is_low { "at or below" } else { "above" };
+            format!("{said} {limit:.1}: {}", row.named(baseline))
+        })
     })
 }
 
@@ -234,6 +239,25 @@ mod tests {
                 one_pass,
             },
         }
+    }
+
+    #[test]
+    fn digests_have_a_limit_of_their_own() {
+        let times = [
+            row("SHA-256 of a", 8, 2.4, 2.0, 2.0),
+            row("SHA-256 of b", 8, 2.6, 2.0, 2.4),
+        ];
+        assert_eq!(
+            verdicts(&times, &[]),
+            [
+                "against ordinary, at or below 1.2: SHA-256 of a (1.20)",
+                "against ordinary, above 1.2: SHA-256 of b (1.30)",
+                "against ordinary, above 1.5: no line",
+                "against one pass, at or below 1.2: SHA-256 of a (1.20)",
+                "against one pass, at or below 1.2: SHA-256 of b (1.08)",
+                "against one pass, above 1.5: no line",
+            ]
+        );
     }
 
     #[test]

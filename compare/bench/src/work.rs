@@ -61,7 +61,10 @@ impl Work {
 
 /// The lines of all tables.
 pub fn all() -> Vec<Work> {
-    [texts(), forms(), cycles(), growths()].into_iter().flatten().collect()
+    [texts(), digests(), forms(), cycles(), growths()]
+        .into_iter()
+        .flatten()
+        .collect()
 }
 
 /// Validating text of 32,768 bytes.
@@ -80,6 +83,21 @@ fn texts() -> Vec<Work> {
         validate("validate: a targets file", |shelf| {
             Release::new(shelf, 1, &LARGE).targets_text()
         }),
+    ]
+}
+
+/// SHA-256 alone: of a small file, of one at the limit, and of twice as many bytes.
+fn digests() -> Vec<Work> {
+    let digest = |name, length| {
+        Work::new(name, |shelf| Play {
+            before: Vec::new(),
+            parts: vec![vec![inputs::message(shelf, length)]],
+        })
+    };
+    vec![
+        digest("SHA-256 of 1,000 bytes", 1_000),
+        digest("SHA-256 of 32,768 bytes", 32_768),
+        digest("SHA-256 of 65,536 bytes", 65_536),
     ]
 }
 

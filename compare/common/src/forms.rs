@@ -3,7 +3,7 @@
 use crate::records::{Root, Signed, Snapshot, Targets, Timestamp};
 use crate::refusal::Refusal;
 
-/// A way to read text and the four files (refusals 1 to 4).
+/// A way to read text and the four files (refusals 1 to 4, of a root also 16).
 pub trait Forms {
     /// Whether the bytes are canonical text.
     fn is_canonical(text: &[u8]) -> bool;

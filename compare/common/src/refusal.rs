@@ -34,6 +34,8 @@ pub enum Refusal {
     OfferedExpired = 14,
     /// "not listed"
     NotListed = 15,
+    /// A keyid of a key table is not "the hex digest of the canonical text of its key". Tried between 3 and 4.
+    OtherKeyid = 16,
 }
 
 /// The number that a call answers: that of the refusal, "0 if none".
@@ -45,7 +47,7 @@ pub fn number_of<T>(result: &Result<T, Refusal>) -> u8 {
 }
 
 /// Refuses unless the condition holds. The steps ask their conditions in the order of the table, so the first refusal is
-/// "the lowest number whose condition holds".
+/// "the lowest number whose condition holds", 16 in its place.
 pub fn ensure(holds: bool, otherwise: Refusal) -> Result<(), Refusal> {
     if holds { Ok(()) } else { Err(otherwise) }
 }

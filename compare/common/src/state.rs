@@ -1,5 +1,5 @@
 //! "Steps" (01): the trusted state. Each step reads the offered file, asks the table's conditions in rising order, and
-//! only then changes the state.
+//! only then changes the state. The digest of a file is worked out once, by the steps that compare or keep it.
 
 use std::marker::PhantomData;
 
@@ -7,6 +7,7 @@ use crate::forms::Forms;
 use crate::hex::Id;
 use crate::records::{Header, Listed, Role, Root, Signed, Snapshot, Target, Timestamp};
 use crate::refusal::{Refusal, ensure};
+use crate::sha256;
 
 /// The trusted state; its steps read files by `F`.
 #[derive(Clone, Debug)]
@@ -41,7 +42,7 @@ impl<F> Default for State<F> {
 }
 
 impl<F: Forms> State<F> {
-    /// Install (1 to 5, 10): "a root judged by its own root role. No expiry check."
+    /// Install (1 to 5, 10, 16): "a root judged by its own root role. No expiry check."
     pub fn install(file: &[u8], row: &[u8], start: i64) -> Result<State<F>, Refusal> {
         let Signed { entries, says: root } = F::root(file)?;
         check_row(row, &entries)?;
@@ -58,7 +59,7 @@ impl<F: Forms> State<F> {
         self.start = start;
     }
 
-    /// Root (1 to 6, 9, 10, 11): the verdicts under the held root's keys, and those under its own.
+    /// Root (1 to 6, 9, 10, 11, 16): the verdicts under the held root's keys, and those under its own.
     pub fn root(&mut self, file: &[u8], held_row: &[u8], own_row: &[u8]) -> Result<(), Refusal> {
         let Signed { entries, says: new } = F::root(file)?;
         check_row(held_row, &entries)?;
@@ -100,15 +101,14 @@ impl<F: Forms> State<F> {
     }
 
     /// Snapshot (1 to 9, 11, 13, 14): "needs a timestamp, leans on root and timestamp".
-    pub fn snapshot(&mut self, file: &[u8], row: &[u8], digest: &[u8]) -> Result<(), Refusal> {
+    pub fn snapshot(&mut self, file: &[u8], row: &[u8]) -> Result<(), Refusal> {
         let Signed { entries, says: new } = F::snapshot(file)?;
         check_row(row, &entries)?;
-        let digest = read_digest(digest)?;
         let root = self.root.as_ref().ok_or(Refusal::NotHeld)?;
         let timestamp = self.timestamp.as_ref().ok_or(Refusal::NotHeld)?;
         self.check_held(&root.header)?;
         self.check_held(&timestamp.header)?;
-        check_content(&timestamp.snapshot, file, digest)?;
+        check_content(&timestamp.snapshot, file, &sha256::digest(file))?;
         ensure(root.is_signed(root.snapshot, &entries, row), Refusal::FewHeldKeys)?;
         ensure(new.header.version == timestamp.snapshot.version, Refusal::WrongVersion)?;
         if let Some(held) = &self.snapshot {
@@ -120,39 +120,38 @@ impl<F: Forms> State<F> {
     }
 
     /// Targets (1 to 9, 11, 14): "needs a current snapshot", "leans on root, timestamp, snapshot".
-    pub fn targets(&mut self, file: &[u8], row: &[u8], digest: &[u8]) -> Result<(), Refusal> {
+    pub fn targets(&mut self, file: &[u8], row: &[u8]) -> Result<(), Refusal> {
         let Signed { entries, says: new } = F::targets(file, None)?;
         check_row(row, &entries)?;
-        let digest = read_digest(digest)?;
         let root = self.root.as_ref().ok_or(Refusal::NotHeld)?;
         let (timestamp, snapshot) = self.current_snapshot().ok_or(Refusal::NotHeld)?;
         self.check_held(&root.header)?;
         self.check_held(&timestamp.header)?;
         self.check_held(&snapshot.header)?;
         let listed = snapshot.targets_entry().ok_or(Refusal::NotHeld)?;
-        check_content(listed, file, digest)?;
+        let digest = sha256::digest(file);
+        check_content(listed, file, &digest)?;
         ensure(root.is_signed(root.targets, &entries, row), Refusal::FewHeldKeys)?;
         ensure(new.header.version == listed.version, Refusal::WrongVersion)?;
         self.check_offered(&new.header)?;
         self.targets = Some(HeldTargets {
             header: new.header,
-            digest: *digest,
+            digest,
         });
         Ok(())
     }
 
-    /// Find (1 to 8, 15): the length and digest of an image. "Needs current targets .. and a current snapshot; leans on
-    /// all four."
-    pub fn find(&self, file: &[u8], digest: &[u8], path: &[u8]) -> Result<Target, Refusal> {
+    /// Find (1 to 4, 6 to 8, 15): the length and digest of an image. "Needs current targets .. and a current snapshot; leans
+    /// on all four."
+    pub fn find(&self, file: &[u8], path: &[u8]) -> Result<Target, Refusal> {
         let given = F::targets(file, Some(path))?.says;
-        let digest = read_digest(digest)?;
         let root = self.root.as_ref().ok_or(Refusal::NotHeld)?;
         let (timestamp, snapshot) = self.current_snapshot().ok_or(Refusal::NotHeld)?;
         let targets = self.current_targets(snapshot).ok_or(Refusal::NotHeld)?;
         for header in [&root.header, &timestamp.header, &snapshot.header, &targets.header] {
             self.check_held(header)?;
         }
-        ensure(*digest == targets.digest, Refusal::OtherContent)?;
+        ensure(sha256::digest(file) == targets.digest, Refusal::OtherContent)?;
         // A path of length 0 or above 128 is no name of a targets file.
         given.found.ok_or(Refusal::NotListed)
     }
@@ -230,10 +229,6 @@ impl Snapshot {
 fn check_row(row: &[u8], entries: &[Id]) -> Result<(), Refusal> {
     let is_row = row.len() == entries.len() && row.iter().all(|verdict| *verdict <= 1);
     ensure(is_row, Refusal::BadArgument)
-}
-
-fn read_digest(digest: &[u8]) -> Result<&Id, Refusal> {
-    digest.try_into().map_err(|_| Refusal::BadArgument)
 }
 
 /// "Length and digest are compared where listed."

@@ -83,6 +83,16 @@ pub struct Reader<'a> {
 }
 
 impl<'a> Reader<'a> {
+    /// What is still to be read.
+    pub fn rest(&self) -> &'a [u8] {
+        self.rest
+    }
+
+    /// What was read since this was still to be read.
+    pub fn since(&self, rest: &'a [u8]) -> &'a [u8] {
+        &rest[..rest.len() - self.rest.len()]
+    }
+
     /// The byte that comes next. It tells what kind of value begins there.
     pub fn next_byte(&self) -> Option<u8> {
         self.rest.first().copied()

@@ -4,7 +4,7 @@
 
 use std::collections::BTreeMap;
 
-use common::{Forms, State, date, number_of};
+use common::{Forms, State, date, number_of, sha256};
 use paper::script::Script;
 use side::calls::{ANSWERS, Call, kind_of};
 use side::compare::Group;
@@ -27,6 +27,7 @@ const PLAYED: &[&str] = &[
     "snapshot",
     "targets",
     "find",
+    "sha256",
 ];
 
 /// Plays calls by a baseline, from the blank state on.
@@ -65,19 +66,20 @@ impl<F: Forms> Player<F> {
                 let result = self.state.timestamp(file, row);
                 self.step("timestamp", number_of(&result))
             }
-            Call::Snapshot { file, row, digest } => {
-                let result = self.state.snapshot(file, row, digest);
+            Call::Snapshot { file, row } => {
+                let result = self.state.snapshot(file, row);
                 self.step("snapshot", number_of(&result))
             }
-            Call::Targets { file, row, digest } => {
-                let result = self.state.targets(file, row, digest);
+            Call::Targets { file, row } => {
+                let result = self.state.targets(file, row);
                 self.step("targets", number_of(&result))
             }
-            Call::Find { file, digest, path } => {
-                let result = self.state.find(file, digest, path);
+            Call::Find { file, path } => {
+                let result = self.state.find(file, path);
                 let (length, sha256) = result.map_or((0, [0; 32]), |target| (target.length, target.sha256));
                 format!("find {} {length} {}", number_of(&result), paper::hex::written(&sha256))
             }
+            Call::Sha256(bytes) => format!("sha256 {}", paper::hex::written(&sha256::digest(bytes))),
             Call::Look(_) | Call::Entry { .. } | Call::Key(_) | Call::Image { .. } | Call::State => return None,
         };
         Some(answer)
@@ -125,6 +127,7 @@ pub fn every_answer_is_papers<F: Forms>() {
         compare::<F>(&group, &mut kinds);
     }
     assert!(kinds.values().sum::<usize>() > 300_000, "{kinds:?}");
+    assert!(kinds["sha256"] > 1_500, "{kinds:?}");
     // Every answer that 01 lists for a call has occurred, so none of the conditions was left untried.
     for (call, numbers) in ANSWERS.iter().filter(|(call, _)| PLAYED.contains(call)) {
         for number in *numbers {

@@ -6,7 +6,7 @@ use paper::envelope;
 use paper::refusal::{Refusal, number_of};
 use paper::script::Call;
 use paper::state::{self, State};
-use paper::{hex, json};
+use paper::{hex, json, sha256};
 
 /// A record's version: whether it is held, as a byte, and the number.
 pub type Version = (u8, u64);
@@ -45,6 +45,8 @@ pub enum Given {
     Image(u64, [u8; 32]),
     /// Of key: the public key.
     Public([u8; 32]),
+    /// Of sha256, which has no number: the digest.
+    Digest([u8; 32]),
     /// Of look: start and length of the signed part, and the number of entries.
     Part(u64, u64, u64),
     /// Of entry: keyid and signature.
@@ -54,7 +56,7 @@ pub enum Given {
 /// An answer.
 #[derive(Clone, Copy, Debug, PartialEq, Eq)]
 pub struct Said {
-    /// Document 01's number; of `is_canonical` 1 or 0.
+    /// Document 01's number; of `is_canonical` 1 or 0, of `sha256` always 0.
     pub number: u8,
     /// What comes with it.
     pub given: Given,
@@ -66,7 +68,7 @@ impl fmt::Display for Said {
         match self.given {
             Given::Nothing => Ok(()),
             Given::Image(length, digest) => write!(out, ", {length} bytes, {}", hex::written(&digest)),
-            Given::Public(public) => write!(out, ", {}", hex::written(&public)),
+            Given::Public(bytes) | Given::Digest(bytes) => write!(out, ", {}", hex::written(&bytes)),
             Given::Part(start, length, entries) => {
                 write!(out, ", {length} bytes from place {start}, {entries} entries")
             }
@@ -105,10 +107,14 @@ pub fn paper_says(state: &mut State, call: &Call) -> Option<Said> {
             own_row,
         } => step(state.root(file, held_row, own_row)),
         Call::Timestamp { file, row } => step(state.timestamp(file, row)),
-        Call::Snapshot { file, row, digest } => step(state.snapshot(file, row, digest)),
-        Call::Targets { file, row, digest } => step(state.targets(file, row, digest)),
-        Call::Find { file, digest, path } => find(state, file, digest, path),
+        Call::Snapshot { file, row } => step(state.snapshot(file, row)),
+        Call::Targets { file, row } => step(state.targets(file, row)),
+        Call::Find { file, path } => find(state, file, path),
         Call::Image { found, fetched } => step(state::image((found.0, &found.1), (fetched.0, &fetched.1))),
+        Call::Sha256(bytes) => Said {
+            number: 0,
+            given: Given::Digest(sha256::digest(bytes)),
+        },
         Call::Date(_) | Call::State => return None,
     };
     Some(said)
@@ -118,8 +124,8 @@ fn step(result: Result<(), Refusal>) -> Said {
     number(number_of(&result))
 }
 
-fn find(state: &State, file: &[u8], digest: &[u8], path: &[u8]) -> Said {
-    let result = state.find(file, digest, path);
+fn find(state: &State, file: &[u8], path: &[u8]) -> Said {
+    let result = state.find(file, path);
     let number = number_of(&result);
     let given = match result {
         Ok(target) => Given::Image(target.length, undone(&target.sha256)),

@@ -28,6 +28,11 @@ struct Image {
 }
 
 #[repr(C)]
+struct Digest {
+    bytes: [u8; 32],
+}
+
+#[repr(C)]
 struct PublicKey {
     answer: u8,
     bytes: [u8; 32],
@@ -78,33 +83,9 @@ unsafe extern "C" {
         own_row_len: usize,
     ) -> Step;
     fn gronwythal_timestamp(state: State, file: *const u8, file_len: usize, row: *const u8, row_len: usize) -> Step;
-    fn gronwythal_snapshot(
-        state: State,
-        file: *const u8,
-        file_len: usize,
-        row: *const u8,
-        row_len: usize,
-        digest: *const u8,
-        digest_len: usize,
-    ) -> Step;
-    fn gronwythal_targets(
-        state: State,
-        file: *const u8,
-        file_len: usize,
-        row: *const u8,
-        row_len: usize,
-        digest: *const u8,
-        digest_len: usize,
-    ) -> Step;
-    fn gronwythal_find(
-        state: State,
-        file: *const u8,
-        file_len: usize,
-        digest: *const u8,
-        digest_len: usize,
-        path: *const u8,
-        path_len: usize,
-    ) -> Image;
+    fn gronwythal_snapshot(state: State, file: *const u8, file_len: usize, row: *const u8, row_len: usize) -> Step;
+    fn gronwythal_targets(state: State, file: *const u8, file_len: usize, row: *const u8, row_len: usize) -> Step;
+    fn gronwythal_find(state: State, file: *const u8, file_len: usize, path: *const u8, path_len: usize) -> Image;
     fn gronwythal_key(state: State, keyid: *const u8, keyid_len: usize) -> PublicKey;
     fn gronwythal_versions(state: State) -> Versions;
     fn gronwythal_check_image(
@@ -118,6 +99,7 @@ unsafe extern "C" {
     fn gronwythal_look(file: *const u8, file_len: usize) -> Look;
     fn gronwythal_entry(file: *const u8, file_len: usize, place: usize) -> Entry;
     fn gronwythal_is_canonical(text: *const u8, text_len: usize) -> u8;
+    fn gronwythal_sha256(bytes: *const u8, bytes_len: usize) -> Digest;
 }
 
 /// The archive that the program is linked with.
@@ -156,24 +138,12 @@ impl Library for Archive {
                 Lent::Timestamp { file, row } => {
                     gronwythal_timestamp(given, file.as_ptr(), file.len(), row.as_ptr(), row.len())
                 }
-                Lent::Snapshot { file, row, digest } => gronwythal_snapshot(
-                    given,
-                    file.as_ptr(),
-                    file.len(),
-                    row.as_ptr(),
-                    row.len(),
-                    digest.as_ptr(),
-                    digest.len(),
-                ),
-                Lent::Targets { file, row, digest } => gronwythal_targets(
-                    given,
-                    file.as_ptr(),
-                    file.len(),
-                    row.as_ptr(),
-                    row.len(),
-                    digest.as_ptr(),
-                    digest.len(),
-                ),
+                Lent::Snapshot { file, row } => {
+                    gronwythal_snapshot(given, file.as_ptr(), file.len(), row.as_ptr(), row.len())
+                }
+                Lent::Targets { file, row } => {
+                    gronwythal_targets(given, file.as_ptr(), file.len(), row.as_ptr(), row.len())
+                }
                 _ => return question(given, call),
             }
         };
@@ -197,16 +167,8 @@ fn question(state: State, call: &Lent) -> Said {
     // SAFETY: as the header declares them; the bytes are lent for the time of the call, and no pointer is null.
     unsafe {
         match *call {
-            Lent::Find { file, digest, path } => {
-                let image = gronwythal_find(
-                    state,
-                    file.as_ptr(),
-                    file.len(),
-                    digest.as_ptr(),
-                    digest.len(),
-                    path.as_ptr(),
-                    path.len(),
-                );
+            Lent::Find { file, path } => {
+                let image = gronwythal_find(state, file.as_ptr(), file.len(), path.as_ptr(), path.len());
                 Said {
                     number: image.answer,
                     given: Given::Image(image.length, image.digest),
@@ -242,6 +204,10 @@ fn question(state: State, call: &Lent) -> Said {
                 }
             }
             Lent::Text(bytes) => number(gronwythal_is_canonical(bytes.as_ptr(), bytes.len())),
+            Lent::Sha256(bytes) => Said {
+                number: 0,
+                given: Given::Digest(gronwythal_sha256(bytes.as_ptr(), bytes.len()).bytes),
+            },
             _ => unreachable!("a step"),
         }
     }

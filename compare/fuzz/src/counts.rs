@@ -10,6 +10,7 @@ use side::calls::ANSWERS;
 pub fn name_of(call: &Call) -> &'static str {
     match call {
         Call::Text(_) => "is_canonical",
+        Call::Sha256(_) => "sha256",
         Call::Date(_) => "date",
         Call::Look(_) => "look",
         Call::Entry { .. } => "entry",
@@ -43,11 +44,12 @@ impl Counts {
         self.counts.values().sum()
     }
 
-    /// The answers that never occurred: of those that document 01 lists for each call, and of `is_canonical` yes and no.
+    /// The answers that never occurred: of those that document 01 lists for each call, of `is_canonical` yes and no, and of
+    /// `sha256` the one that it has.
     pub fn missing(&self) -> Vec<String> {
-        let canonical = ("is_canonical", &[0, 1][..]);
+        let others = [("is_canonical", &[0, 1][..]), ("sha256", &[0])];
         let listed = ANSWERS.iter().filter(|(name, _)| *name != "text").copied();
-        let expected = listed.chain([canonical]);
+        let expected = listed.chain(others);
         let expected = expected.flat_map(|(name, numbers)| numbers.iter().map(move |number| (name, *number)));
         expected
             .filter(|kind| !self.counts.contains_key(kind))
@@ -88,6 +90,9 @@ mod tests {
         for kind in [
             "is_canonical 1",
             "install 10",
+            "install 16",
+            "root 16",
+            "sha256 0",
             "timestamp 12",
             "find 15",
             "entry 15",

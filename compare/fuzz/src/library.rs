@@ -22,6 +22,7 @@ pub trait Library {
 #[derive(Clone, Copy, Debug)]
 pub enum Lent<'a> {
     Text(&'a [u8]),
+    Sha256(&'a [u8]),
     Look(&'a [u8]),
     Entry {
         file: &'a [u8],
@@ -46,16 +47,13 @@ pub enum Lent<'a> {
     Snapshot {
         file: &'a [u8],
         row: &'a [u8],
-        digest: &'a [u8],
     },
     Targets {
         file: &'a [u8],
         row: &'a [u8],
-        digest: &'a [u8],
     },
     Find {
         file: &'a [u8],
-        digest: &'a [u8],
         path: &'a [u8],
     },
     Image {

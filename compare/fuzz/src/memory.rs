@@ -110,6 +110,7 @@ impl Memory {
         let [one, two, three] = &mut self.rooms;
         let lent = match call {
             Call::Text(bytes) => Lent::Text(one.lend(bytes, side)),
+            Call::Sha256(bytes) => Lent::Sha256(one.lend(bytes, side)),
             Call::Look(file) => Lent::Look(one.lend(file, side)),
             Call::Entry { file, place } => Lent::Entry {
                 file: one.lend(file, side),
@@ -135,20 +136,17 @@ impl Memory {
                 file: one.lend(file, side),
                 row: two.lend(row, side),
             },
-            Call::Snapshot { file, row, digest } => Lent::Snapshot {
+            Call::Snapshot { file, row } => Lent::Snapshot {
                 file: one.lend(file, side),
                 row: two.lend(row, side),
-                digest: three.lend(digest, side),
             },
-            Call::Targets { file, row, digest } => Lent::Targets {
+            Call::Targets { file, row } => Lent::Targets {
                 file: one.lend(file, side),
                 row: two.lend(row, side),
-                digest: three.lend(digest, side),
             },
-            Call::Find { file, digest, path } => Lent::Find {
+            Call::Find { file, path } => Lent::Find {
                 file: one.lend(file, side),
-                digest: two.lend(digest, side),
-                path: three.lend(path, side),
+                path: two.lend(path, side),
             },
             Call::Image { found, fetched } => Lent::Image {
                 found: (found.0, one.lend(&found.1, side)),

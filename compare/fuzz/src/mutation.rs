@@ -1,10 +1,14 @@
 //! Makes another call of a call: its file edited by bytes or tokens, its rows, digests, keyids, paths, places and clocks
-//! changed.
+//! changed. The keys of an edited root often get their true keyids again: without them few edited roots would be read further.
 
+use std::collections::BTreeMap;
+
+use paper::hex;
 use paper::script::Call;
 use side::groups::damage;
 use side::random::Random;
-use side::shelf::sha256::digest;
+use side::shelf::keyids::{mended, renamed, true_keyids};
+use side::shelf::tree::{Tree, text};
 
 use crate::tokens;
 
@@ -43,7 +47,7 @@ pub fn mutated(call: &Call, other: &[u8], random: &mut Random) -> Call {
 
 fn change(call: &mut Call, other: &[u8], random: &mut Random) {
     match call {
-        Call::Text(bytes) | Call::Look(bytes) => change_file(bytes, other, random),
+        Call::Text(bytes) | Call::Look(bytes) | Call::Sha256(bytes) => change_file(bytes, other, random),
         Call::Date(_) | Call::State => {}
         Call::Entry { file, place } => match random.below(2) {
             0 => change_file(file, other, random),
@@ -53,7 +57,7 @@ fn change(call: &mut Call, other: &[u8], random: &mut Random) {
         Call::Install { file, row, time } => match random.below(4) {
             0 => change_row(row, random),
             1 => *time = clock(*time, random),
-            _ => change_file(file, other, random),
+            _ => change_root(file, other, random),
         },
         Call::Cycle(time) => *time = clock(*time, random),
         Call::Root {
@@ -64,21 +68,16 @@ fn change(call: &mut Call, other: &[u8], random: &mut Random) {
             0 => change_row(held_row, random),
             1 => change_row(own_row, random),
             2 => std::mem::swap(held_row, own_row),
-            _ => change_file(file, other, random),
+            _ => change_root(file, other, random),
         },
-        Call::Timestamp { file, row } => match random.below(3) {
-            0 => change_row(row, random),
-            _ => change_file(file, other, random),
-        },
-        Call::Snapshot { file, row, digest } | Call::Targets { file, row, digest } => match random.below(6) {
-            0 => change_row(row, random),
-            1 => change_bytes(digest, random),
-            _ => change_file_and_digest(file, digest, other, random),
-        },
-        Call::Find { file, digest, path } => match random.below(6) {
-            0 | 1 => change_bytes(path, random),
-            2 => change_bytes(digest, random),
-            3 => change_file_and_digest(file, digest, other, random),
+        Call::Timestamp { file, row } | Call::Snapshot { file, row } | Call::Targets { file, row } => {
+            match random.below(3) {
+                0 => change_row(row, random),
+                _ => change_file(file, other, random),
+            }
+        }
+        Call::Find { file, path } => match random.below(2) {
+            0 => change_bytes(path, random),
             _ => change_file(file, other, random),
         },
         Call::Image { found, fetched } => match random.below(4) {
@@ -90,12 +89,38 @@ fn change(call: &mut Call, other: &[u8], random: &mut Random) {
     }
 }
 
-/// The digest often follows the file, so that the change is not hidden behind another digest.
-fn change_file_and_digest(file: &mut Vec<u8>, given: &mut Vec<u8>, other: &[u8], random: &mut Random) {
-    change_file(file, other, random);
-    if random.one_in(2) {
-        *given = digest(file).to_vec();
+/// Edits a root anywhere, or one of its keys. Then its keyids may be mended.
+fn change_root(file: &mut Vec<u8>, other: &[u8], random: &mut Random) {
+    let edited = if random.one_in(4) {
+        edited_key(file, random)
+    } else {
+        None
+    };
+    match edited {
+        Some(edited) => *file = edited,
+        None => change_file(file, other, random),
     }
+    if random.one_in(2)
+        && let Some(root) = Tree::read(file)
+    {
+        *file = mended(&root).written();
+    }
+}
+
+/// The root with another public value in one of its keys, or an unknown member, or with another keyid; `None` if it is none.
+fn edited_key(file: &[u8], random: &mut Random) -> Option<Vec<u8>> {
+    let mut root = Tree::read(file)?;
+    let keyids: Vec<String> = true_keyids(&root).into_keys().collect();
+    let keyid = keyids.get(random.below(keyids.len().max(1)))?;
+    let other = hex::written(&[random.byte(); 32]);
+    let key = root.member(&["signed", "keys", keyid]);
+    let has_public = key.get("keyval").is_some_and(|keyval| keyval.get("public").is_some());
+    match random.below(3) {
+        0 if has_public => *key.member(&["keyval", "public"]) = text(other),
+        1 if has_public => key.member(&["keyval"]).insert("~", text(other)),
+        _ => root = renamed(&root, &BTreeMap::from([(keyid.clone(), other)])),
+    }
+    Some(root.written())
 }
 
 fn change_file(file: &mut Vec<u8>, other: &[u8], random: &mut Random) {
@@ -181,10 +206,13 @@ fn clock(time: i64, random: &mut Random) -> i64 {
 
 #[cfg(test)]
 mod tests {
-    use super::{LONGEST, mutated};
+    use super::{LONGEST, change_root, mutated};
     use crate::memory::ROOM;
+    use paper::forms;
+    use paper::refusal::Refusal;
     use paper::script::Call;
     use side::random::Random;
+    use side::shelf::files::{self, Root};
 
     #[test]
     fn most_mutated_calls_are_others_and_all_can_be_lent() {
@@ -213,8 +241,8 @@ mod tests {
             Call::Targets {
                 file: file.clone(),
                 row,
-                digest: vec![9; 32],
             },
+            Call::Sha256(file.clone()),
             Call::Image {
                 found: (3, vec![9; 32]),
                 fetched: (4, vec![9; 32]),
@@ -228,20 +256,45 @@ mod tests {
     #[test]
     fn every_argument_is_changed_now_and_then() {
         let mut random = Random::new(1, "mutation");
-        let call = Call::Snapshot {
+        let call = Call::Root {
             file: b"{}".to_vec(),
-            row: vec![1],
-            digest: vec![9; 32],
+            held_row: vec![1],
+            own_row: vec![0],
         };
         let mut changed = [false; 3];
         for _ in 0..200 {
-            let Call::Snapshot { file, row, digest } = mutated(&call, b"[]", &mut random) else {
+            let Call::Root {
+                file,
+                held_row,
+                own_row,
+            } = mutated(&call, b"[]", &mut random)
+            else {
                 panic!("another call")
             };
             changed[0] |= file != b"{}";
-            changed[1] |= row != [1];
-            changed[2] |= digest != [9; 32];
+            changed[1] |= held_row != [1];
+            changed[2] |= own_row != [0];
         }
         assert_eq!(changed, [true; 3]);
+    }
+
+    /// How many of so many edited roots are refused with 16, and how many are accepted though a key is another.
+    #[test]
+    fn edited_keys_are_mended_now_and_then() {
+        let mut random = Random::new(1, "mutation");
+        let root = Root::new(1, 0);
+        let file = files::file(root.signed(), &[1]).written();
+        let keyids: Vec<_> = forms::root(&file).unwrap().says.keys.into_keys().collect();
+        let (mut refused, mut accepted) = (0, 0);
+        for _ in 0..1_000 {
+            let mut edited = file.clone();
+            change_root(&mut edited, b"[]", &mut random);
+            match forms::root(&edited) {
+                Err(Refusal::OtherKeyid) => refused += 1,
+                Ok(root) if !root.says.keys.keys().eq(&keyids) => accepted += 1,
+                _ => {}
+            }
+        }
+        assert!(refused > 50 && accepted > 50, "{refused} and {accepted}");
     }
 }

@@ -103,6 +103,14 @@ impl Source {
         }
     }
 
+    /// Something to be digested: a file, or a few blocks of any bytes.
+    fn message(&mut self, file: Option<Vec<u8>>) -> Vec<u8> {
+        match file {
+            Some(file) if self.random.one_in(3) => file,
+            _ => (0..self.random.below(300)).map(|_| self.random.byte()).collect(),
+        }
+    }
+
     /// A question about what is held, or about the file of a call.
     fn question(&mut self, call: &Call, state: &State) -> Option<Call> {
         let file = file_of(call).cloned();
@@ -119,6 +127,7 @@ impl Source {
             }
             4 => Some(Call::Text(file?)),
             5 => Some(Call::Text(damage::damaged(&mut self.random))),
+            6 => Some(Call::Sha256(self.message(file))),
             _ => None,
         }
     }

@@ -10,6 +10,7 @@ use crate::library::{Lent, Library};
 pub const MISTAKES: &[&str] = &[
     "number",
     "install-number",
+    "keyid-number",
     "image-number",
     "find-length",
     "find-digest",
@@ -22,6 +23,8 @@ pub const MISTAKES: &[&str] = &[
     "entry-keyid",
     "entry-sig",
     "canonical-to-the-limit",
+    "digest",
+    "digest-of-longer-messages",
     "held-version",
     "version-of-what-is-not-held",
     "start-time",
@@ -51,6 +54,7 @@ impl Library for StandIn {
         match (self.mistake, &call, &mut said.given) {
             ("number", Call::Timestamp { .. }, _) if said.number == 12 => said.number = 11,
             ("install-number", Call::Install { .. }, _) if said.number == 10 => said.number = 9,
+            ("keyid-number", Call::Root { .. }, _) if said.number == 16 => said.number = 4,
             ("image-number", Call::Image { .. }, _) if said.number == 5 => said.number = 8,
             ("find-length", _, Given::Image(length, _)) => *length &= 0x7fff_ffff,
             ("find-digest", _, Given::Image(_, digest)) => digest[31] = 0,
@@ -62,6 +66,10 @@ impl Library for StandIn {
             ("look-entries", _, Given::Part(_, _, entries)) => *entries = (*entries).min(15),
             ("entry-keyid", _, Given::Entry(keyid, _)) => keyid[31] &= 0xf0,
             ("entry-sig", _, Given::Entry(_, sig)) => sig[63] = 0,
+            ("digest", _, Given::Digest(digest)) => digest[31] &= 0xfe,
+            ("digest-of-longer-messages", Call::Sha256(bytes), Given::Digest(digest)) if bytes.len() % 64 > 55 => {
+                *digest = [0; 32];
+            }
             ("canonical-to-the-limit", Call::Text(bytes), _) if bytes.len() > 32_768 => said.number = 0,
             _ => {}
         }
@@ -103,6 +111,7 @@ impl StandIn {
 fn owned(call: &Lent) -> Call {
     match *call {
         Lent::Text(bytes) => Call::Text(bytes.to_vec()),
+        Lent::Sha256(bytes) => Call::Sha256(bytes.to_vec()),
         Lent::Look(file) => Call::Look(file.to_vec()),
         Lent::Entry { file, place } => Call::Entry {
             file: file.to_vec(),
@@ -128,19 +137,16 @@ fn owned(call: &Lent) -> Call {
             file: file.to_vec(),
             row: row.to_vec(),
         },
-        Lent::Snapshot { file, row, digest } => Call::Snapshot {
+        Lent::Snapshot { file, row } => Call::Snapshot {
             file: file.to_vec(),
             row: row.to_vec(),
-            digest: digest.to_vec(),
         },
-        Lent::Targets { file, row, digest } => Call::Targets {
+        Lent::Targets { file, row } => Call::Targets {
             file: file.to_vec(),
             row: row.to_vec(),
-            digest: digest.to_vec(),
         },
-        Lent::Find { file, digest, path } => Call::Find {
+        Lent::Find { file, path } => Call::Find {
             file: file.to_vec(),
-            digest: digest.to_vec(),
             path: path.to_vec(),
         },
         Lent::Image { found, fetched } => Call::Image {

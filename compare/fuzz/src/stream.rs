@@ -38,7 +38,7 @@ pub fn write(record: &mut Vec<u8>, number: usize, made: &Move, said: &Said, held
             record.extend(length.to_le_bytes());
             record.extend(digest);
         }
-        Given::Public(public) => record.extend(public),
+        Given::Public(bytes) | Given::Digest(bytes) => record.extend(bytes),
         Given::Part(start, length, entries) => {
             record.extend([start, length, entries].into_iter().flat_map(u64::to_le_bytes));
         }
@@ -57,6 +57,7 @@ pub fn write(record: &mut Vec<u8>, number: usize, made: &Move, said: &Said, held
 fn kind_of(call: &Call) -> u8 {
     match call {
         Call::Text(_) => b'c',
+        Call::Sha256(_) => b'h',
         Call::Look(_) => b'l',
         Call::Entry { .. } => b'e',
         Call::Key(_) => b'k',
@@ -74,7 +75,7 @@ fn kind_of(call: &Call) -> u8 {
 
 fn write_arguments(record: &mut Vec<u8>, call: &Call) {
     match call {
-        Call::Text(bytes) | Call::Look(bytes) | Call::Key(bytes) => write_bytes(record, bytes),
+        Call::Text(bytes) | Call::Look(bytes) | Call::Key(bytes) | Call::Sha256(bytes) => write_bytes(record, bytes),
         Call::Entry { file, place } => {
             write_bytes(record, file);
             record.extend(place.to_le_bytes());
@@ -86,28 +87,18 @@ fn write_arguments(record: &mut Vec<u8>, call: &Call) {
         }
         Call::Cycle(time) => record.extend(time.to_le_bytes()),
         Call::Root {
-            file: one,
-            held_row: two,
-            own_row: three,
-        }
-        | Call::Snapshot {
-            file: one,
-            row: two,
-            digest: three,
-        }
-        | Call::Targets {
-            file: one,
-            row: two,
-            digest: three,
-        }
-        | Call::Find {
-            file: one,
-            digest: two,
-            path: three,
-        } => [one, two, three].iter().for_each(|bytes| write_bytes(record, bytes)),
-        Call::Timestamp { file, row } => {
+            file,
+            held_row,
+            own_row,
+        } => [file, held_row, own_row]
+            .iter()
+            .for_each(|bytes| write_bytes(record, bytes)),
+        Call::Timestamp { file, row: other }
+        | Call::Snapshot { file, row: other }
+        | Call::Targets { file, row: other }
+        | Call::Find { file, path: other } => {
             write_bytes(record, file);
-            write_bytes(record, row);
+            write_bytes(record, other);
         }
         Call::Image { found, fetched } => {
             for (length, digest) in [found, fetched] {

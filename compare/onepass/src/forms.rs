@@ -1,4 +1,4 @@
-//! "Forms" (01): what each of the four files says, read in one pass over its text (refusals 1 to 4).
+//! "Forms" (01): what each of the four files says, read in one pass over its text (refusals 1 to 4, of a root also 16).
 
 use common::Refusal;
 use common::date;
@@ -7,6 +7,8 @@ use common::records::{
     Header, Key, LENGTHS, Listed, MAX_ENTRIES, MAX_FILE, MAX_KEYS, MAX_NAMES, MAX_PATH, MAX_TARGETS, Name, Role, Root,
     Signed, Snapshot, Target, Targets, Timestamp, VERSIONS,
 };
+use common::refusal::ensure;
+use common::sha256;
 use common::text::{self, Fault, Reader, Text, is_canonical};
 
 /// A root file.
@@ -14,12 +16,17 @@ pub fn root(file: &[u8]) -> Result<Signed<Root>, Refusal> {
     read_file(file, |reader| {
         let mut header = HeaderFields::new(b"root");
         let mut consistent_snapshot = None;
+        let mut has_true_keyids = false;
         let mut keys = None;
         let mut roles = None;
         reader.object(|reader, name| {
             match name.raw() {
                 b"consistent_snapshot" => consistent_snapshot = Some(reader.truth()?),
-                b"keys" => keys = Some(read_keys(reader)?),
+                b"keys" => {
+                    let table = read_keys(reader)?;
+                    has_true_keyids = table.has_true_keyids;
+                    keys = Some(table.keys);
+                }
                 // In canonical text the keys stand before the roles.
                 b"roles" => roles = Some(read_roles(reader, keys.as_deref().ok_or(Fault)?)?),
                 _ => header.read_member(reader, name)?,
@@ -29,14 +36,16 @@ pub fn root(file: &[u8]) -> Result<Signed<Root>, Refusal> {
         consistent_snapshot.ok_or(Fault)?;
         let [root, timestamp, snapshot, targets] = roles.ok_or(Fault)?;
         let keys = keys.ok_or(Fault)?;
-        header.finish(|header| Root {
+        let (root, spec_version) = header.finish(|header| Root {
             header,
             keys,
             root,
             timestamp,
             snapshot,
             targets,
-        })
+        })?;
+        let keyids = ensure(has_true_keyids, Refusal::OtherKeyid);
+        Ok((root, keyids.and(spec_version)))
     })
 }
 
@@ -98,8 +107,8 @@ pub fn targets(file: &[u8], path: Option<&[u8]>) -> Result<Signed<Targets>, Refu
     })
 }
 
-/// A signed part, and whether its spec_version is known.
-type Body<T> = (T, bool);
+/// What a signed part that has its form says, and whether it is refused for its keyids or its spec_version.
+type Body<T> = (T, Result<(), Refusal>);
 
 /// Reads a file in one pass. Only where that fails is the text read again, to tell what is not canonical (2) from what
 /// has another form (3).
@@ -111,8 +120,7 @@ fn read_file<'a, T>(
         return Err(Refusal::TooLong);
     }
     match text::read_whole(file, |reader| read_envelope(reader, signed)) {
-        Ok((signed, true)) => Ok(signed),
-        Ok((_, false)) => Err(Refusal::SpecVersion),
+        Ok((signed, said)) => said.map(|()| signed),
         Err(Fault) if is_canonical(file) => Err(Refusal::BrokenForm),
         Err(Fault) => Err(Refusal::NotCanonical),
     }
@@ -134,8 +142,8 @@ fn read_envelope<'a, T>(
         Ok(())
     })?;
     let entries = entries.ok_or(Fault)?;
-    let (says, is_known) = body.ok_or(Fault)?;
-    Ok((Signed { entries, says }, is_known))
+    let (says, said) = body.ok_or(Fault)?;
+    Ok((Signed { entries, says }, said))
 }
 
 fn read_entries(reader: &mut Reader) -> text::Result<Vec<Id>> {
@@ -217,23 +225,37 @@ impl HeaderFields {
             version: self.version.ok_or(Fault)?,
             expires: self.expires.ok_or(Fault)?,
         };
-        Ok((body(header), self.is_known.ok_or(Fault)?))
+        let is_known = self.is_known.ok_or(Fault)?;
+        Ok((body(header), ensure(is_known, Refusal::SpecVersion)))
     }
 }
 
+/// A key table that has its form.
+struct KeyTable {
+    keys: Vec<Key>,
+    /// "A key table's keyid must be the hex digest of the canonical text of its key".
+    has_true_keyids: bool,
+}
+
 /// "keys", 1 to 16. "no two keyids of one file may have the same public value"
-fn read_keys(reader: &mut Reader) -> text::Result<Vec<Key>> {
+fn read_keys(reader: &mut Reader) -> text::Result<KeyTable> {
     let mut keys: Vec<Key> = Vec::with_capacity(MAX_KEYS);
+    let mut has_true_keyids = true;
     reader.object(|reader, name| {
         let keyid = hex::id(name.raw()).ok_or(Fault)?;
+        let rest = reader.rest();
         let public = read_key(reader)?;
         if keys.len() == MAX_KEYS || keys.iter().any(|key| key.public == public) {
             return Err(Fault);
         }
+        has_true_keyids &= sha256::digest(reader.since(rest)) == keyid;
         keys.push(Key { keyid, public });
         Ok(())
     })?;
-    if keys.is_empty() { Err(Fault) } else { Ok(keys) }
+    if keys.is_empty() {
+        return Err(Fault);
+    }
+    Ok(KeyTable { keys, has_true_keyids })
 }
 
 /// The public value of a key: "keytype and scheme `ed25519` and a keyval whose public is 64 lower-case hex".

@@ -1,4 +1,4 @@
-//! "Forms" (01): what each of the four files says, taken from the tree of its text (refusals 1 to 4).
+//! "Forms" (01): what each of the four files says, taken from the tree of its text (refusals 1 to 4, of a root also 16).
 
 use common::Refusal;
 use common::date;
@@ -8,6 +8,7 @@ use common::records::{
     Signed, Snapshot, Target, Targets, Timestamp, VERSIONS,
 };
 use common::refusal::ensure;
+use common::sha256;
 use common::text::Text;
 
 use crate::tree::{self, Object, Value};
@@ -20,14 +21,16 @@ pub fn root(file: &[u8]) -> Result<Signed<Root>, Refusal> {
         let keys = read_keys(key_table)?;
         let roles = signed.get("roles")?.object()?;
         let role = |name| read_role(roles.get(name)?, key_table);
-        Some(Root {
+        let root = Root {
             header,
             root: role("root")?,
             timestamp: role("timestamp")?,
             snapshot: role("snapshot")?,
             targets: role("targets")?,
             keys,
-        })
+        };
+        let is_true = has_true_keyids(&root.keys, key_table);
+        Some((root, ensure(is_true, Refusal::OtherKeyid)))
     })
 }
 
@@ -40,7 +43,7 @@ pub fn timestamp(file: &[u8]) -> Result<Signed<Timestamp>, Refusal> {
             return None;
         }
         let snapshot = read_listed(meta.get("snapshot.json")?)?;
-        Some(Timestamp { header, snapshot })
+        Some((Timestamp { header, snapshot }, Ok(())))
     })
 }
 
@@ -51,7 +54,7 @@ pub fn snapshot(file: &[u8]) -> Result<Signed<Snapshot>, Refusal> {
         // No name at all is missing this one.
         members.get("targets.json")?;
         let meta = read_meta(members)?;
-        Some(Snapshot { header, meta })
+        Some((Snapshot { header, meta }, Ok(())))
     })
 }
 
@@ -59,15 +62,23 @@ pub fn snapshot(file: &[u8]) -> Result<Signed<Snapshot>, Refusal> {
 pub fn targets(file: &[u8], path: Option<&[u8]>) -> Result<Signed<Targets>, Refusal> {
     read(file, b"targets", |header, signed| {
         let found = read_targets(signed.get("targets")?.object()?, path)?;
-        Some(Targets { header, found })
+        Some((Targets { header, found }, Ok(())))
     })
 }
 
-/// Reads a file of the role. That any form is broken is said before its spec_version is judged.
-fn read<T>(file: &[u8], role: &[u8], says: impl FnOnce(Header, &Object) -> Option<T>) -> Result<Signed<T>, Refusal> {
+/// What a signed part that has its form says, and whether its keyids are refused.
+type Body<T> = (T, Result<(), Refusal>);
+
+/// Reads a file of the role. That any form is broken is said before its keyids and its spec_version are judged.
+fn read<T>(
+    file: &[u8],
+    role: &[u8],
+    body: impl FnOnce(Header, &Object) -> Option<Body<T>>,
+) -> Result<Signed<T>, Refusal> {
     ensure(file.len() <= MAX_FILE, Refusal::TooLong)?;
     let value = tree::parse(file).map_err(|_| Refusal::NotCanonical)?;
-    let (signed, spec_version) = read_envelope(&value, role, says).ok_or(Refusal::BrokenForm)?;
+    let ((signed, keyids), spec_version) = read_envelope(&value, role, body).ok_or(Refusal::BrokenForm)?;
+    keyids?;
     ensure(is_known(spec_version), Refusal::SpecVersion)?;
     Ok(signed)
 }
@@ -76,14 +87,14 @@ fn read<T>(file: &[u8], role: &[u8], says: impl FnOnce(Header, &Object) -> Optio
 fn read_envelope<'a, T>(
     value: &Value<'a>,
     role: &[u8],
-    says: impl FnOnce(Header, &Object) -> Option<T>,
-) -> Option<(Signed<T>, Text<'a>)> {
+    body: impl FnOnce(Header, &Object) -> Option<Body<T>>,
+) -> Option<(Body<Signed<T>>, Text<'a>)> {
     let members = value.object()?;
     let entries = read_entries(members.get("signatures")?.array()?)?;
     let signed = members.get("signed")?.object()?;
     let (header, spec_version) = read_header(signed, role)?;
-    let says = says(header, signed)?;
-    Some((Signed { entries, says }, spec_version))
+    let (says, keyids) = body(header, signed)?;
+    Some(((Signed { entries, says }, keyids), spec_version))
 }
 
 fn read_entries(entries: &[Value]) -> Option<Vec<Id>> {
@@ -153,6 +164,15 @@ fn read_key(key: &Value) -> Option<Id> {
         }
     }
     read_id(members.get("keyval")?.object()?.get("public")?)
+}
+
+/// "A key table's keyid must be the hex digest of the canonical text of its key, unknown members included".
+fn has_true_keyids(keys: &[Key], key_table: &Object) -> bool {
+    let mut pairs = keys.iter().zip(key_table.iter());
+    pairs.all(|(key, (_, value))| {
+        let text = value.object().map(Object::text);
+        text.is_some_and(|text| sha256::digest(text) == key.keyid)
+    })
 }
 
 /// "1 to 16 different keyids from the key table and a threshold from 1 to the number of those keyids"

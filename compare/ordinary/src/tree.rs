@@ -21,10 +21,11 @@ pub enum Value<'a> {
     Object(Object<'a>),
 }
 
-/// The members of an object in the order of the text, in which the names rise.
-#[derive(Debug, Default)]
+/// The members of an object in the order of the text, in which the names rise, and the text itself.
+#[derive(Debug)]
 pub struct Object<'a> {
     members: Vec<(Text<'a>, Value<'a>)>,
+    text: &'a [u8],
 }
 
 /// The value of a canonical text.
@@ -45,11 +46,13 @@ fn read_value<'a>(reader: &mut Reader<'a>) -> text::Result<Value<'a>> {
 
 fn read_object<'a>(reader: &mut Reader<'a>) -> text::Result<Object<'a>> {
     let mut members = Vec::new();
+    let rest = reader.rest();
     reader.object(|reader, name| {
         members.push((name, read_value(reader)?));
         Ok(())
     })?;
-    Ok(Object { members })
+    let text = reader.since(rest);
+    Ok(Object { members, text })
 }
 
 fn read_array<'a>(reader: &mut Reader<'a>) -> text::Result<Vec<Value<'a>>> {
@@ -104,6 +107,11 @@ impl<'a> Value<'a> {
 }
 
 impl<'a> Object<'a> {
+    /// The text, from bracket to bracket.
+    pub fn text(&self) -> &'a [u8] {
+        self.text
+    }
+
     /// How many members there are.
     pub fn count(&self) -> usize {
         self.members.len()
@@ -148,5 +156,7 @@ mod tests {
         assert_eq!(inner.get("c").unwrap().within(0..=9), None);
         assert_eq!(inner.get("d").unwrap().within(0..=9), Some(7));
         assert!(inner.get("e").is_none() && inner.count() == 2);
+        assert_eq!(inner.text(), br#"{"c":-10,"d":7}"#);
+        assert_eq!(members.text(), text);
     }
 }

@@ -1,9 +1,11 @@
 //! The cases that document 01 names, and the steps in their order.
 
+use crate::envelope;
 use crate::forms;
 use crate::hex;
 use crate::refusal::Refusal::{self, *};
-use crate::shelf::{self, EXPIRES, NOW, Root, digest, file, keyid, public};
+use crate::sha256;
+use crate::shelf::{self, EXPIRES, NOW, Root, digest, file, key_text, keyid, keyid_of, public};
 use crate::state::{State, image};
 
 /// A state that holds this root alone.
@@ -11,15 +13,15 @@ fn installed(root: &Root) -> State {
     State::install(&root.file(&[1, 2]), &[1, 1], NOW).unwrap()
 }
 
-/// A state that holds a timestamp 3, a snapshot 5 with `a` at 9, and targets 7 with the digest of 7s.
+/// A state that holds a timestamp 3, a snapshot 5 with `a` at 9, and targets 7.
 fn complete() -> State {
     let mut state = installed(&Root::new(1));
     assert_eq!(state.timestamp(&timestamp_file(3, 5), &[1]), Ok(()));
     assert_eq!(
-        state.snapshot(&snapshot_file(5, &[("a", 9), ("targets.json", 7)]), &[1], &digest(5)),
+        state.snapshot(&snapshot_file(5, &[("a", 9), ("targets.json", 7)]), &[1]),
         Ok(())
     );
-    assert_eq!(state.targets(&targets_file(7), &[1], &digest(7)), Ok(()));
+    assert_eq!(state.targets(&targets_file(7), &[1]), Ok(()));
     state
 }
 
@@ -51,14 +53,29 @@ fn targets_file(version: u64) -> Vec<u8> {
     file(&[4], &shelf::targets(version, EXPIRES, &table.join(",")))
 }
 
+/// A keyid that is off by one digit.
+fn last_digit_changed(keyid: &str) -> String {
+    digit_changed(keyid, 63)
+}
+
+fn digit_changed(keyid: &str, place: usize) -> String {
+    let other = if &keyid[place..=place] == "0" { "1" } else { "0" };
+    format!("{}{other}{}", &keyid[..place], &keyid[place + 1..])
+}
+
 /// The file, made longer by a member that is passed over.
 fn padded(file: &[u8], length: usize) -> Vec<u8> {
     let rest = length - file.len() - r#","z":"""#.len();
     [&file[..file.len() - 1], br#","z":""#, &vec![b'x'; rest], b"\"}"].concat()
 }
 
+/// What is found in targets 7.
 fn found(state: &State, path: &[u8]) -> Result<(u64, String), Refusal> {
-    let target = state.find(&targets_file(7), &digest(7), path)?;
+    found_in(state, 7, path)
+}
+
+fn found_in(state: &State, version: u64, path: &[u8]) -> Result<(u64, String), Refusal> {
+    let target = state.find(&targets_file(version), path)?;
     Ok((target.length, target.sha256))
 }
 
@@ -142,13 +159,12 @@ mod files_to_try {
         let empty = file(&[4], &shelf::targets(8, EXPIRES, ""));
         assert_eq!(state.timestamp(&timestamp_file(4, 6), &[1]), Ok(()));
         assert_eq!(
-            state.snapshot(&snapshot_file(6, &[("a", 9), ("targets.json", 8)]), &[1], &digest(6)),
+            state.snapshot(&snapshot_file(6, &[("a", 9), ("targets.json", 8)]), &[1]),
             Ok(())
         );
-        assert_eq!(state.targets(&empty, &[1], &digest(8)), Ok(()));
-        assert_eq!(state.find(&empty, &digest(8), b"image"), Err(NotListed));
-        assert_eq!(state.find(&empty, &digest(9), b"image"), Err(Differs));
-        assert_eq!(state.find(&empty, &[8; 31], b"image"), Err(BrokenArgument));
+        assert_eq!(state.targets(&empty, &[1]), Ok(()));
+        assert_eq!(state.find(&empty, b"image"), Err(NotListed));
+        assert_eq!(state.find(&targets_file(8), b"image"), Err(Differs));
     }
 
     #[test]
@@ -211,17 +227,11 @@ mod getting_it_wrong {
         assert_eq!(state.timestamp(&timestamp_file(4, 6), &[1]), Ok(()));
         let mut lower = names;
         lower[0].1 = 8;
-        assert_eq!(
-            state.snapshot(&snapshot_file(6, &lower), &[1], &digest(6)),
-            Err(WentBack)
-        );
+        assert_eq!(state.snapshot(&snapshot_file(6, &lower), &[1]), Err(WentBack));
         lower[0].1 = 9;
-        assert_eq!(state.snapshot(&snapshot_file(6, &lower), &[1], &digest(6)), Ok(()));
+        assert_eq!(state.snapshot(&snapshot_file(6, &lower), &[1]), Ok(()));
         let misplaced = [names[1], names[0], names[4]];
-        assert_eq!(
-            state.snapshot(&snapshot_file(6, &misplaced), &[1], &digest(6)),
-            Err(NotCanonical)
-        );
+        assert_eq!(state.snapshot(&snapshot_file(6, &misplaced), &[1]), Err(NotCanonical));
     }
 
     #[test]
@@ -272,10 +282,10 @@ mod steps {
         assert_eq!(state.root(&Root::new(2).file(&[1]), &[1], &[1]), Err(NotHeld));
         assert_eq!(state.timestamp(&timestamp_file(1, 1), &[1]), Err(NotHeld));
         assert_eq!(
-            state.snapshot(&snapshot_file(1, &[("targets.json", 1)]), &[1], &digest(1)),
+            state.snapshot(&snapshot_file(1, &[("targets.json", 1)]), &[1]),
             Err(NotHeld)
         );
-        assert_eq!(state.targets(&targets_file(1), &[1], &digest(1)), Err(NotHeld));
+        assert_eq!(state.targets(&targets_file(1), &[1]), Err(NotHeld));
         assert_eq!(found(&state, b"image"), Err(NotHeld));
         assert_eq!(state.key(keyid(1).as_bytes()), Err(NotHeld));
         assert_eq!(state.timestamp(&timestamp_file(1, 1), &[]), Err(BrokenArgument));
@@ -367,7 +377,7 @@ mod steps {
             (6, &[("a", 9), ("b", 1), ("targets.json", 7)], Ok(())),
         ] {
             assert_eq!(
-                state.snapshot(&snapshot_file(version, names), &[1], &digest(6)),
+                state.snapshot(&snapshot_file(version, names), &[1]),
                 answer,
                 "{names:?}"
             );
@@ -376,35 +386,58 @@ mod steps {
 
     #[test]
     fn length_and_digest_where_listed() {
-        let listings: [(String, [Result<(), Refusal>; 3]); 4] = [
-            (String::new(), [Ok(()), Ok(()), Ok(())]),
-            (r#""length":LENGTH,"#.to_string(), [Ok(()), Err(Differs), Ok(())]),
+        let listings: [(&str, [Result<(), Refusal>; 3]); 4] = [
+            ("", [Ok(()), Ok(()), Ok(())]),
+            (r#""length":LENGTH,"#, [Ok(()), Err(Differs), Ok(())]),
+            (r#""hashes":{"sha256":"DIGEST"},"#, [Ok(()), Err(Differs), Err(Differs)]),
             (
-                r#""hashes":{"sha256":"DIGEST"},"#.to_string(),
-                [Ok(()), Ok(()), Err(Differs)],
-            ),
-            (
-                r#""hashes":{"sha256":"DIGEST"},"length":LENGTH,"#.to_string(),
+                r#""hashes":{"sha256":"DIGEST"},"length":LENGTH,"#,
                 [Ok(()), Err(Differs), Err(Differs)],
             ),
         ];
         let sound = snapshot_file(1, &[("targets.json", 1)]);
         let longer = snapshot_file(1, &[("b", 1), ("targets.json", 1)]);
+        let as_long = snapshot_file(1, &[("targets.json", 2)]);
+        assert_eq!(as_long.len(), sound.len());
         for (listing, answers) in listings {
             let listed = listing
                 .replace("LENGTH", &sound.len().to_string())
-                .replace("DIGEST", &hex::written(&digest(1)));
+                .replace("DIGEST", &hex::written(&sha256::digest(&sound)));
             let listed = format!(r#"{listed}"version":1"#);
-            let offers = [(&sound, digest(1)), (&longer, digest(1)), (&sound, digest(2))];
-            for ((offered, digest), answer) in offers.into_iter().zip(answers) {
+            for (offered, answer) in [&sound, &longer, &as_long].into_iter().zip(answers) {
                 let mut state = installed(&Root::new(1));
                 assert_eq!(
                     state.timestamp(&file(&[5], &shelf::timestamp(1, EXPIRES, &listed)), &[1]),
                     Ok(())
                 );
-                assert_eq!(state.snapshot(offered, &[1], &digest), answer, "{listed}");
+                assert_eq!(state.snapshot(offered, &[1]), answer, "{listed}");
             }
         }
+    }
+
+    /// It is the whole file that is digested, its signatures too, and not the signed part.
+    #[test]
+    fn the_digest_is_that_of_the_whole_file() {
+        let signed = shelf::targets(7, EXPIRES, "");
+        let (one, other) = (file(&[4], &signed), file(&[4, 6], &signed));
+        for (listed, answers) in [(&one, [Ok(()), Err(Differs)]), (&other, [Err(Differs), Ok(())])] {
+            let sha256 = hex::written(&sha256::digest(listed));
+            let listed = format!(r#""targets.json":{{"hashes":{{"sha256":"{sha256}"}},"version":7}}"#);
+            let snapshot = file(&[3], &shelf::snapshot(5, EXPIRES, &listed));
+            for ((offered, row), answer) in [(&one, &[1][..]), (&other, &[1, 0])].into_iter().zip(answers) {
+                let mut state = installed(&Root::new(1));
+                assert_eq!(state.timestamp(&timestamp_file(3, 5), &[1]), Ok(()));
+                assert_eq!(state.snapshot(&snapshot, &[1]), Ok(()));
+                assert_eq!(state.targets(offered, row), answer);
+            }
+        }
+        let mut state = complete();
+        assert_eq!(state.timestamp(&timestamp_file(4, 6), &[1]), Ok(()));
+        let newer = snapshot_file(6, &[("a", 9), ("targets.json", 7)]);
+        assert_eq!(state.snapshot(&newer, &[1]), Ok(()));
+        assert_eq!(state.targets(&one, &[1]), Ok(()));
+        assert_eq!(state.find(&one, b"image"), Err(NotListed));
+        assert_eq!(state.find(&other, b"image"), Err(Differs));
     }
 
     #[test]
@@ -413,13 +446,14 @@ mod steps {
         assert_eq!(found(&state, b"image"), Ok((0, hex::written(&digest(1)))));
         assert_eq!(state.timestamp(&timestamp_file(4, 6), &[1]), Ok(()));
         assert_eq!(found(&state, b"image"), Err(NotHeld));
-        assert_eq!(state.targets(&targets_file(7), &[1], &digest(7)), Err(NotHeld));
+        assert_eq!(state.targets(&targets_file(7), &[1]), Err(NotHeld));
         let newer = snapshot_file(6, &[("a", 9), ("targets.json", 8)]);
-        assert_eq!(state.snapshot(&newer, &[1], &digest(6)), Ok(()));
+        assert_eq!(state.snapshot(&newer, &[1]), Ok(()));
         assert_eq!(found(&state, b"image"), Err(NotHeld));
-        assert_eq!(state.targets(&targets_file(7), &[1], &digest(7)), Err(WrongVersion));
-        assert_eq!(state.targets(&targets_file(8), &[1], &digest(7)), Ok(()));
-        assert_eq!(found(&state, b"image"), Ok((0, hex::written(&digest(1)))));
+        assert_eq!(state.targets(&targets_file(7), &[1]), Err(WrongVersion));
+        assert_eq!(state.targets(&targets_file(8), &[1]), Ok(()));
+        assert_eq!(found(&state, b"image"), Err(Differs));
+        assert_eq!(found_in(&state, 8, b"image"), Ok((0, hex::written(&digest(1)))));
     }
 
     #[test]
@@ -429,12 +463,12 @@ mod steps {
         assert_eq!(found(&state, b"image"), Err(HeldExpired));
         assert_eq!(state.timestamp(&timestamp_file(4, 6), &[1]), Err(HeldExpired));
         let newer = snapshot_file(6, &[("targets.json", 8)]);
-        assert_eq!(state.snapshot(&newer, &[1], &digest(6)), Err(HeldExpired));
-        assert_eq!(state.targets(&targets_file(7), &[1], &digest(7)), Err(HeldExpired));
+        assert_eq!(state.snapshot(&newer, &[1]), Err(HeldExpired));
+        assert_eq!(state.targets(&targets_file(7), &[1]), Err(HeldExpired));
         state.cycle(1_893_455_999);
         assert_eq!(found(&state, b"image"), Ok((0, hex::written(&digest(1)))));
         let expired = snapshot_expiring(5, "2020-01-01T00:00:00Z", &[("a", 9), ("targets.json", 7)]);
-        assert_eq!(state.snapshot(&expired, &[1], &digest(5)), Err(OfferedExpired));
+        assert_eq!(state.snapshot(&expired, &[1]), Err(OfferedExpired));
     }
 
     #[test]
@@ -565,6 +599,10 @@ mod broken_forms {
     #[test]
     fn of_roots() {
         let signed = Root::new(1).signed();
+        let first_of_root = |key: usize| format!(r#""root":{{"keyids":["{}""#, keyid(key));
+        let (sound, twice, stray) = (first_of_root(1), first_of_root(2), first_of_root(7));
+        let in_table = format!(r#""{}":{{"#, keyid(1));
+        let other_name = in_table.replacen(&keyid(1), &last_digit_changed(&keyid(1)), 1);
         let pairs = [
             ("\"consistent_snapshot\":false", "\"consistent_snapshot\":0"),
             ("\"consistent_snapshot\":false", "\"consistent_snapshou\":false"),
@@ -573,10 +611,10 @@ mod broken_forms {
             ("\"public\":\"01", "\"public\":\"1"),
             ("\"public\":\"01", "\"public\":\"0A"),
             ("\"public\":\"01", "\"public\":\"02"),
-            ("\"01", "\"00"),
+            (&in_table, &other_name),
             ("\"roles\":{\"root\"", "\"roles\":{\"roos\""),
-            ("\"keyids\":[\"01", "\"keyids\":[\"02"),
-            ("\"keyids\":[\"01", "\"keyids\":[\"07"),
+            (&sound, &twice),
+            (&sound, &stray),
             ("\"threshold\":1", "\"threshold\":0"),
             ("\"threshold\":1", "\"threshold\":3"),
             ("\"threshold\":1", "\"threshold\":18446744073709551617"),
@@ -586,7 +624,6 @@ mod broken_forms {
             ("\"roles\":{\"root\"", "\"roles\":{\"mirrors\":0,\"root\""),
             ("\"threshold\":1", "\"threshold\":2"),
             ("\"consistent_snapshot\":false", "\"consistent_snapshot\":true"),
-            ("\"keyval\":{", "\"keyval\":{\"private\":\"\","),
             ("\"_type\"", "\"\":[],\"_type\""),
         ];
         replaced(ROOT, &signed, Ok(()), &passed_over);
@@ -694,5 +731,216 @@ mod broken_forms {
         };
         assert_eq!(with(&many(256)), Ok(()));
         assert_eq!(with(&many(257)), Err(BrokenForm));
+    }
+}
+
+/// "A key table's keyid must be the hex digest of the canonical text of its key, unknown members included [..]; otherwise the
+/// new refusal 16, tried between 3 and 4".
+mod keyids {
+    use super::*;
+
+    /// What both calls that read a root answer to it; it is version 2, and signed by enough keys.
+    fn answers(root: &Root) -> Result<(), Refusal> {
+        let file = root.file(&[1, 2]);
+        let installed_alone = State::install(&file, &[1, 1], NOW).map(drop);
+        let mut state = installed(&Root::new(1));
+        let before = state.clone();
+        // Key 2 stays what it is, and so enough keys of the held root sign.
+        let answer = state.root(&file, &[1, 1], &[1, 1]);
+        assert_eq!(answer, installed_alone);
+        assert!(answer.is_ok() || state == before, "a refusal changes nothing");
+        answer
+    }
+
+    fn second() -> Root {
+        Root::new(2)
+    }
+
+    /// Document 003 prints this key with this keyid; 000 prints the keyid that it has without the scheme.
+    const PRINTED_KEY: &str = r#"{"keytype":"ed25519","keyval":{"public":"66dd78c5c2a78abc6fc6b267ff1a8017ba0e8bfc853dd97af351949bba021275"},"scheme":"ed25519"}"#;
+    const PRINTED_IN_003: &str = "cb3fbd83df4ba2471a736b065650878280964a98843ec13b457a99b2a21cc3b4";
+    const PRINTED_IN_000: &str = "f2d5020d08aea06a0a9192eb6a4f549e17032ebefa1aa9ac167c1e3e727930d6";
+
+    #[test]
+    fn a_printed_keyid_is_true_in_003_and_not_in_000() {
+        for (keyid, answer) in [(PRINTED_IN_003, Ok(())), (PRINTED_IN_000, Err(OtherKeyid))] {
+            let mut root = second();
+            root.texts.insert(1, PRINTED_KEY.to_string());
+            root.keyids.insert(1, keyid.to_string());
+            assert_eq!(answers(&root), answer, "{keyid}");
+        }
+        assert_eq!(keyid_of(PRINTED_KEY), PRINTED_IN_003);
+        let without_scheme = PRINTED_KEY.replace(r#","scheme":"ed25519""#, "");
+        assert_eq!(keyid_of(&without_scheme), PRINTED_IN_000);
+    }
+
+    #[test]
+    fn off_by_one_digit() {
+        for key in [1, 5, 6] {
+            for place in 0..64 {
+                let mut root = second();
+                root.keyids.insert(key, digit_changed(&keyid(key), place));
+                assert_eq!(answers(&root), Err(OtherKeyid), "key {key}, digit {place}");
+            }
+        }
+        assert_eq!(answers(&second()), Ok(()));
+    }
+
+    #[test]
+    fn a_keyid_in_upper_case_has_not_its_form() {
+        let mut root = second();
+        root.keyids.insert(5, keyid(5).to_uppercase());
+        assert_eq!(answers(&root), Err(BrokenForm));
+    }
+
+    #[test]
+    fn the_keyids_of_two_keys_swapped() {
+        let mut root = second();
+        root.keyids.extend([(1, keyid(2)), (2, keyid(1))]);
+        assert_eq!(answers(&root), Err(OtherKeyid));
+        root.keyids.clear();
+        assert_eq!(answers(&root), Ok(()));
+    }
+
+    #[test]
+    fn unknown_members_of_a_key_are_part_of_its_text() {
+        for (known, more) in [
+            (r#"{"keytype""#, r#"{"a":0,"keytype""#),
+            (r#""keyval":{"#, r#""keyval":{"private":"","#),
+            (
+                r#""scheme":"ed25519""#,
+                r#""scheme":"ed25519","z":{"a":[{"b":"\"\\"},null]}"#,
+            ),
+            (r#","scheme""#, r#","keyval!":-1,"scheme""#),
+        ] {
+            let text = key_text(6).replace(known, more);
+            assert_ne!(text, key_text(6));
+            let mut root = second();
+            root.texts.insert(6, text.clone());
+            assert_eq!(answers(&root), Ok(()), "{text}");
+            // Under the keyid that it has without the unknown member.
+            root.keyids.insert(6, keyid(6));
+            assert_eq!(answers(&root), Err(OtherKeyid), "{text}");
+            // And the other way round.
+            root.keyids.insert(6, keyid_of(&text));
+            root.texts.clear();
+            assert_eq!(answers(&root), Err(OtherKeyid), "{text}");
+        }
+    }
+
+    /// A key whose text is not canonical has no keyid: the file is refused as no canonical text.
+    #[test]
+    fn the_text_of_a_key_is_canonical_if_the_file_is() {
+        for (known, spelt) in [
+            (r#"{"keytype""#, r#"{ "keytype""#),
+            (r#""ed25519","#, r#""ed2551\u0039","#),
+            (r#""scheme":"ed25519""#, r#""scheme":"ed25519","a":0"#),
+        ] {
+            let mut root = second();
+            root.texts.insert(6, key_text(6).replacen(known, spelt, 1));
+            assert_ne!(root.key_text(6), key_text(6));
+            assert_eq!(answers(&root), Err(NotCanonical), "{spelt}");
+            root.keyids.insert(6, keyid(6));
+            assert_eq!(answers(&root), Err(NotCanonical), "{spelt}");
+        }
+    }
+
+    #[test]
+    fn another_public_value_under_the_keyid_that_was() {
+        let mut root = second();
+        root.texts.insert(1, key_text(9));
+        root.keyids.insert(1, keyid(1));
+        assert_eq!(answers(&root), Err(OtherKeyid));
+    }
+
+    #[test]
+    fn only_the_last_of_sixteen_keys() {
+        let mut root = second();
+        root.keys = (1..=16).collect();
+        assert_eq!(answers(&root), Ok(()));
+        let last = (1..=16).max_by_key(|key| keyid(*key)).expect("sixteen keys");
+        root.keyids.insert(last, last_digit_changed(&keyid(last)));
+        assert_eq!(answers(&root), Err(OtherKeyid));
+    }
+
+    #[test]
+    fn tried_before_spec_version() {
+        let mut root = second();
+        root.spec_version = "2";
+        assert_eq!(answers(&root), Err(SpecVersion));
+        root.keyids.insert(5, last_digit_changed(&keyid(5)));
+        assert_eq!(answers(&root), Err(OtherKeyid));
+    }
+
+    #[test]
+    fn tried_after_every_form() {
+        let mut wrong = second();
+        wrong.keyids.insert(5, last_digit_changed(&keyid(5)));
+        type Break = fn(&mut Root);
+        let breaks: [Break; 5] = [
+            |root| root.version = 0,
+            |root| root.expires = "2030-02-30T00:00:00Z",
+            |root| root.timestamp.1 = 2,
+            |root| root.targets.0 = vec![4, 99],
+            |root| {
+                drop(
+                    root.texts
+                        .insert(6, key_text(1).replace("{\"keytype\"", "{\"a\":0,\"keytype\"")),
+                )
+            },
+        ];
+        for (number, break_form) in breaks.into_iter().enumerate() {
+            let mut root = wrong.clone();
+            break_form(&mut root);
+            assert_eq!(answers(&root), Err(BrokenForm), "{number}");
+        }
+        // A broken entry stands before the signed part, a broken key in the table itself.
+        let text = String::from_utf8(wrong.file(&[1])).expect("a text");
+        for (old, new) in [
+            ("\"sig\":\"", "\"sig\":\"0"),
+            ("\"keytype\":\"ed25519\"", "\"keytype\":\"rsa\""),
+        ] {
+            let broken = text.replacen(old, new, 1);
+            assert_eq!(
+                State::install(broken.as_bytes(), &[1], NOW),
+                Err(BrokenForm),
+                "{broken}"
+            );
+        }
+        let misplaced = text
+            .replacen("\"_type\":\"root\",", "", 1)
+            .replace("\"version\":2}", "\"version\":2,\"_type\":\"root\"}");
+        assert_eq!(State::install(misplaced.as_bytes(), &[1], NOW), Err(NotCanonical));
+    }
+
+    #[test]
+    fn tried_before_verdicts_and_what_is_held() {
+        let mut root = Root::new(9);
+        root.keyids.insert(1, last_digit_changed(&keyid(1)));
+        let file = root.file(&[1]);
+        for row in [&[][..], &[2], &[0], &[1, 1]] {
+            assert_eq!(State::install(&file, row, NOW), Err(OtherKeyid), "{row:?}");
+            assert_eq!(State::blank().root(&file, row, row), Err(OtherKeyid), "{row:?}");
+            assert_eq!(complete().root(&file, row, row), Err(OtherKeyid), "{row:?}");
+        }
+    }
+
+    /// Looks, entries and the other roles ask nothing of keyids.
+    #[test]
+    fn asked_of_key_tables_alone() {
+        let mut root = second();
+        root.keyids.insert(1, last_digit_changed(&keyid(1)));
+        let file = root.file(&[1]);
+        assert!(envelope::look(&file).is_ok());
+        assert_eq!(envelope::entry(&file, 0).map(|entry| entry.keyid), Ok(root.keyid(1)));
+        let stranger = "0".repeat(64);
+        let entry = format!(r#"{{"signatures":[{{"keyid":"{stranger}","sig":"{stranger}{stranger}"}}],"signed":"#);
+        let timestamp = String::from_utf8(timestamp_file(1, 1)).expect("a text");
+        let (_, signed) = timestamp.split_once("\"signed\":").expect("a file");
+        let mut state = installed(&Root::new(1));
+        assert_eq!(
+            state.timestamp(format!("{entry}{signed}").as_bytes(), &[1]),
+            Err(TooFewHeldKeys)
+        );
     }
 }

@@ -1,4 +1,4 @@
-//! "Forms": what a root, timestamp, snapshot and targets file says (refusals 1 to 4).
+//! "Forms": what a root, timestamp, snapshot and targets file says (refusals 1 to 4, of a root also 16).
 //!
 //! The readers of the parts give `None` where a form is broken.
 
@@ -9,7 +9,8 @@ use crate::date;
 use crate::envelope::{self, Entry, hex_member};
 use crate::hex::{self, is_hex};
 use crate::json::{Object, Value};
-use crate::refusal::Refusal;
+use crate::refusal::{Objections, Refusal};
+use crate::sha256;
 
 /// "version" 1 to 2,147,483,647
 const VERSIONS: RangeInclusive<u64> = 1..=2_147_483_647;
@@ -128,7 +129,7 @@ pub struct Target {
 
 /// A root file.
 pub fn root(file: &[u8]) -> Result<Signed<Root>, Refusal> {
-    read(file, "root", |header, signed| {
+    read(file, "root", has_true_keyids, |header, signed| {
         let keys = read_keys(signed)?;
         let roles = signed.get("roles")?.object()?;
         let role = |name| read_role(roles.get(name)?, &keys);
@@ -146,7 +147,7 @@ pub fn root(file: &[u8]) -> Result<Signed<Root>, Refusal> {
 
 /// A timestamp file.
 pub fn timestamp(file: &[u8]) -> Result<Signed<Timestamp>, Refusal> {
-    read(file, "timestamp", |header, signed| {
+    read(file, "timestamp", has_no_keys, |header, signed| {
         let meta = signed.get("meta")?.object()?;
         // "the one name `snapshot.json`"
         if meta.len() != 1 {
@@ -161,7 +162,7 @@ pub fn timestamp(file: &[u8]) -> Result<Signed<Timestamp>, Refusal> {
 
 /// A snapshot file.
 pub fn snapshot(file: &[u8]) -> Result<Signed<Snapshot>, Refusal> {
-    read(file, "snapshot", |header, signed| {
+    read(file, "snapshot", has_no_keys, |header, signed| {
         let meta = read_table(signed.get("meta")?, META_NAMES, META_NAME_BYTES, read_listed)?;
         meta.contains_key("targets.json").then_some(Snapshot { header, meta })
     })
@@ -169,7 +170,7 @@ pub fn snapshot(file: &[u8]) -> Result<Signed<Snapshot>, Refusal> {
 
 /// A targets file.
 pub fn targets(file: &[u8]) -> Result<Signed<Targets>, Refusal> {
-    read(file, "targets", |header, signed| {
+    read(file, "targets", has_no_keys, |header, signed| {
         Some(Targets {
             header,
             targets: read_table(signed.get("targets")?, TARGETS, TARGET_NAME_BYTES, read_target)?,
@@ -177,15 +178,21 @@ pub fn targets(file: &[u8]) -> Result<Signed<Targets>, Refusal> {
     })
 }
 
-/// Reads a file of the role. That any form is broken is said before its spec_version is judged.
-fn read<T>(file: &[u8], role: &str, says: impl FnOnce(Header, &Object) -> Option<T>) -> Result<Signed<T>, Refusal> {
+/// Reads a file of the role. That any form is broken is said before its keyids and its spec_version are judged.
+fn read<T>(
+    file: &[u8],
+    role: &str,
+    keyids_are_true: fn(&Object) -> bool,
+    says: impl FnOnce(Header, &Object) -> Option<T>,
+) -> Result<Signed<T>, Refusal> {
     let envelope = envelope::open(file)?;
     let signed = &envelope.signed;
     let (header, spec_version) = read_header(signed, role).ok_or(Refusal::BrokenForm)?;
     let says = says(header, signed).ok_or(Refusal::BrokenForm)?;
-    if !is_known(spec_version) {
-        return Err(Refusal::SpecVersion);
-    }
+    let mut objections = Objections::default();
+    objections.add_if(!keyids_are_true(signed), Refusal::OtherKeyid);
+    objections.add_if(!is_known(spec_version), Refusal::SpecVersion);
+    objections.first()?;
     Ok(Signed {
         entries: envelope.entries,
         says,
@@ -207,6 +214,18 @@ fn read_header<'a>(signed: &'a Object, role: &str) -> Option<(Header, &'a str)> 
 /// "exactly `1` or beginning with `1.`"
 fn is_known(spec_version: &str) -> bool {
     spec_version == "1" || spec_version.starts_with("1.")
+}
+
+/// "A key table's keyid must be the hex digest of the canonical text of its key, unknown members included".
+fn has_true_keyids(signed: &Object) -> bool {
+    let keyid_of = |key: &Value| hex::written(&sha256::digest(key.written().as_bytes()));
+    let mut keys = signed.get("keys").and_then(Value::object).into_iter().flatten();
+    keys.all(|(keyid, key)| *keyid == keyid_of(key))
+}
+
+/// Of a role without a key table nothing is asked.
+fn has_no_keys(_: &Object) -> bool {
+    true
 }
 
 /// "keyid to keytype and scheme `ed25519` and a keyval whose public is 64 lower-case hex"

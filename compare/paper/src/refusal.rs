@@ -1,18 +1,21 @@
 //! "What the controller says": the numbered reasons for a refusal.
 
-/// A reason to refuse, named after the row of the document's table. Declared in the order of the numbers, so that the
-/// lowest of several is their minimum.
+/// A reason to refuse, named after the row of the document's table. Declared in the order in which they are tried, so that
+/// the first of several is their minimum. That is the order of the numbers, but for 16, which is "tried between 3 and 4".
 #[derive(Clone, Copy, Debug, PartialEq, Eq, PartialOrd, Ord)]
 pub enum Refusal {
     /// "file longer than 32,768 bytes"
-    TooLong = 1,
+    TooLong,
     /// "not canonical text, empty input included"
     NotCanonical,
     /// "a form above is broken"
     BrokenForm,
+    /// A keyid of a key table is not "the hex digest of the canonical text of its key".
+    OtherKeyid,
     /// "spec_version"
     SpecVersion,
-    /// "a verdict row of another length than the entries, a verdict not 0 or 1, a digest not 32 bytes"
+    /// "a verdict row of another length than the entries, a verdict not 0 or 1, a digest not 32 bytes"; only an image is given
+    /// a digest.
     BrokenArgument,
     /// "a record the step needs is not held, or not current"
     NotHeld,
@@ -39,7 +42,24 @@ pub enum Refusal {
 impl Refusal {
     /// The number in the column "No".
     pub fn number(self) -> u8 {
-        self as u8
+        match self {
+            Refusal::TooLong => 1,
+            Refusal::NotCanonical => 2,
+            Refusal::BrokenForm => 3,
+            Refusal::SpecVersion => 4,
+            Refusal::BrokenArgument => 5,
+            Refusal::NotHeld => 6,
+            Refusal::HeldExpired => 7,
+            Refusal::Differs => 8,
+            Refusal::TooFewHeldKeys => 9,
+            Refusal::TooFewOwnKeys => 10,
+            Refusal::WrongVersion => 11,
+            Refusal::NoNews => 12,
+            Refusal::WentBack => 13,
+            Refusal::OfferedExpired => 14,
+            Refusal::NotListed => 15,
+            Refusal::OtherKeyid => 16,
+        }
     }
 }
 
@@ -51,7 +71,7 @@ pub fn number_of<T>(result: &Result<T, Refusal>) -> u8 {
     }
 }
 
-/// The conditions of the table that hold for one call. All are looked at, in any order; only then is the lowest found.
+/// The conditions of the table that hold for one call. All are looked at, in any order; only then is the first found.
 #[derive(Debug, Default)]
 pub struct Objections {
     holding: Vec<Refusal>,
@@ -65,8 +85,8 @@ impl Objections {
         }
     }
 
-    /// "The lowest number whose condition holds, of those the call uses; 0 if none."
-    pub fn lowest(self) -> Result<(), Refusal> {
+    /// "The lowest number whose condition holds, of those the call uses; 0 if none", and 16 in its place.
+    pub fn first(self) -> Result<(), Refusal> {
         match self.holding.into_iter().min() {
             Some(refusal) => Err(refusal),
             None => Ok(()),
@@ -79,11 +99,12 @@ mod tests {
     use super::{Objections, Refusal};
 
     #[test]
-    fn numbers_of_the_table() {
+    fn numbers_of_the_table_in_the_order_in_which_they_are_tried() {
         let rows = [
             (Refusal::TooLong, 1),
             (Refusal::NotCanonical, 2),
             (Refusal::BrokenForm, 3),
+            (Refusal::OtherKeyid, 16),
             (Refusal::SpecVersion, 4),
             (Refusal::BrokenArgument, 5),
             (Refusal::NotHeld, 6),
@@ -104,12 +125,12 @@ mod tests {
     }
 
     #[test]
-    fn the_lowest_is_said() {
+    fn the_first_is_said() {
         let mut objections = Objections::default();
         objections.add_if(true, Refusal::OfferedExpired);
         objections.add_if(true, Refusal::TooFewHeldKeys);
         objections.add_if(false, Refusal::TooLong);
-        assert_eq!(objections.lowest(), Err(Refusal::TooFewHeldKeys));
-        assert_eq!(Objections::default().lowest(), Ok(()));
+        assert_eq!(objections.first(), Err(Refusal::TooFewHeldKeys));
+        assert_eq!(Objections::default().first(), Ok(()));
     }
 }

@@ -7,7 +7,7 @@ use std::path::Path;
 use crate::forms::Header;
 use crate::refusal::number_of;
 use crate::state::{self, State};
-use crate::{date, envelope, file, hex};
+use crate::{date, envelope, file, hex, sha256};
 
 /// "A file argument may be up to 1 MiB"
 const LONGEST_ARGUMENT: u64 = 1 << 20;
@@ -57,30 +57,24 @@ pub enum Call {
         /// Under the held root's keys.
         row: Vec<u8>,
     },
-    /// `snapshot FILE VERDICTS DIGEST`
+    /// `snapshot FILE VERDICTS`
     Snapshot {
         /// The offered file.
         file: Vec<u8>,
         /// Under the held root's keys.
         row: Vec<u8>,
-        /// Of the file.
-        digest: Vec<u8>,
     },
-    /// `targets FILE VERDICTS DIGEST`
+    /// `targets FILE VERDICTS`
     Targets {
         /// The offered file.
         file: Vec<u8>,
         /// Under the held root's keys.
         row: Vec<u8>,
-        /// Of the file.
-        digest: Vec<u8>,
     },
-    /// `find FILE DIGEST PATH`
+    /// `find FILE PATH`
     Find {
         /// The targets file.
         file: Vec<u8>,
-        /// Of the file.
-        digest: Vec<u8>,
         /// The path asked for.
         path: Vec<u8>,
     },
@@ -91,6 +85,8 @@ pub enum Call {
         /// What was fetched.
         fetched: (u64, Vec<u8>),
     },
+    /// `sha256 BYTES`
+    Sha256(Vec<u8>),
     /// `state`
     State,
 }
@@ -128,22 +124,20 @@ impl Call {
             b"snapshot" => Call::Snapshot {
                 file: words.bytes()?,
                 row: words.bytes()?,
-                digest: words.bytes()?,
             },
             b"targets" => Call::Targets {
                 file: words.bytes()?,
                 row: words.bytes()?,
-                digest: words.bytes()?,
             },
             b"find" => Call::Find {
                 file: words.bytes()?,
-                digest: words.bytes()?,
                 path: words.bytes()?,
             },
             b"image" => Call::Image {
                 found: (words.number()?, words.bytes()?),
                 fetched: (words.number()?, words.bytes()?),
             },
+            b"sha256" => Call::Sha256(words.bytes()?),
             b"state" => Call::State,
             _ => return Err("unknown call"),
         };
@@ -275,19 +269,20 @@ impl Script {
                 let result = self.state.timestamp(file, row);
                 self.step("timestamp", number_of(&result))
             }
-            Call::Snapshot { file, row, digest } => {
-                let result = self.state.snapshot(file, row, digest);
+            Call::Snapshot { file, row } => {
+                let result = self.state.snapshot(file, row);
                 self.step("snapshot", number_of(&result))
             }
-            Call::Targets { file, row, digest } => {
-                let result = self.state.targets(file, row, digest);
+            Call::Targets { file, row } => {
+                let result = self.state.targets(file, row);
                 self.step("targets", number_of(&result))
             }
-            Call::Find { file, digest, path } => self.find(file, digest, path),
+            Call::Find { file, path } => self.find(file, path),
             Call::Image { found, fetched } => {
                 let result = state::image((found.0, &found.1), (fetched.0, &fetched.1));
                 format!("image {}", number_of(&result))
             }
+            Call::Sha256(bytes) => format!("sha256 {}", hex::written(&sha256::digest(bytes))),
             Call::State => format!("{}state{}", held(&self.state), versions(&self.state)),
         }
     }
@@ -302,8 +297,8 @@ impl Script {
         format!("key {} {}", number_of(&result), result.unwrap_or(&zeros))
     }
 
-    fn find(&self, file: &[u8], digest: &[u8], path: &[u8]) -> String {
-        match self.state.find(file, digest, path) {
+    fn find(&self, file: &[u8], path: &[u8]) -> String {
+        match self.state.find(file, path) {
             Ok(target) => format!("find 0 {} {}", target.length, target.sha256),
             Err(refusal) => format!("find {} 0 {}", refusal.number(), hex::zeros(hex::OF_32_BYTES)),
         }
@@ -399,12 +394,12 @@ mod tests {
 
     #[test]
     fn lines_that_are_no_call() {
-        let script = "# passed over\n\nlook\nlook - -\nLook -\nlook 0\nlook 0G\nlook AB\nlook @no/such/file\n\
+        let script = "# passed over\n\nlook\nlook - -\nsha256\nsha256 - -\nsnapshot - - -\ntargets - - -\nfind - - -\nLook -\nlook 0\nlook 0G\nlook AB\nlook @no/such/file\n\
                       cycle -\ncycle 9223372036854775808\nentry - -1\nimage 18446744073709551616 - 0 -\n look -\nstate \n\
                       cycle -9223372036854775808";
         let answers = played(script);
-        assert_eq!(answers.len(), 14);
-        for (number, answer) in (3..16).zip(&answers) {
+        assert_eq!(answers.len(), 19);
+        for (number, answer) in (3..21).zip(&answers) {
             let start = format!("error {number} ");
             assert!(answer.starts_with(&start) && answer.len() > start.len(), "{answer}");
         }
@@ -413,11 +408,18 @@ mod tests {
     }
 
     #[test]
+    fn digests_are_written_in_hex() {
+        let abc = "sha256 ba7816bf8f01cfea414140de5dae2223b00361a396177a9cb410ff61f20015ad";
+        let empty = "sha256 e3b0c44298fc1c149afbf4c8996fb92427ae41e4649b934ca495991b7852b855";
+        assert_eq!(played("sha256 'abc\nsha256 616263\nsha256 -"), [abc, abc, empty]);
+    }
+
+    #[test]
     fn what_refused_calls_write() {
         let zeros = "0".repeat(64);
         let blank = "root=- timestamp=- snapshot=- targets=- time=-9223372036854775808";
-        let script = "look '{}\nentry '{} 0\nkey 'a\nfind - - -\nimage 1 - 1 -\ninstall - - 7\nroot - - -\n\
-                      timestamp - -\nsnapshot - - -\ntargets - - -\nstate";
+        let script = "look '{}\nentry '{} 0\nkey 'a\nfind - -\nimage 1 - 1 -\ninstall - - 7\nroot - - -\n\
+                      timestamp - -\nsnapshot - -\ntargets - -\nstate";
         assert_eq!(
             played(script),
             [

@@ -6,6 +6,7 @@ use crate::envelope::Entry;
 use crate::forms::{self, Header, Listed, Role, Root, Signed, Snapshot, TARGET_NAME_BYTES, Target, Timestamp};
 use crate::hex;
 use crate::refusal::{Objections, Refusal};
+use crate::sha256;
 
 /// "SHA-256 digests (32 bytes)"
 const DIGEST_BYTES: usize = 32;
@@ -52,14 +53,14 @@ impl State {
         }
     }
 
-    /// Install (1 to 5, 10): "a root judged by its own root role. No expiry check." Given no state, it begins a new
+    /// Install (1 to 5, 10, 16): "a root judged by its own root role. No expiry check." Given no state, it begins a new
     /// history.
     pub fn install(file: &[u8], row: &[u8], time: i64) -> Result<State, Refusal> {
         let Signed { entries, says: root } = forms::root(file)?;
         let mut objections = Objections::default();
         objections.add_if(!is_row(row, &entries), Refusal::BrokenArgument);
         objections.add_if(!enough(&root.root, &entries, row), Refusal::TooFewOwnKeys);
-        objections.lowest()?;
+        objections.first()?;
         Ok(State {
             root: Some(root),
             time,
@@ -72,7 +73,7 @@ impl State {
         self.time = time;
     }
 
-    /// Root (1 to 6, 9, 10, 11), with a row of verdicts under the held root's keys and one under its own.
+    /// Root (1 to 6, 9, 10, 11, 16), with a row of verdicts under the held root's keys and one under its own.
     pub fn root(&mut self, file: &[u8], held_row: &[u8], own_row: &[u8]) -> Result<(), Refusal> {
         let Signed { entries, says: new } = forms::root(file)?;
         let mut objections = Objections::default();
@@ -86,7 +87,7 @@ impl State {
             objections.add_if(new.header.version != next, Refusal::WrongVersion);
         }
         objections.add_if(!enough(&new.root, &entries, own_row), Refusal::TooFewOwnKeys);
-        objections.lowest()?;
+        objections.first()?;
         if let Some(held) = self.root.replace(new.clone()) {
             self.drop_rotated(&held, &new);
         }
@@ -121,63 +122,60 @@ impl State {
             objections.add_if(new.snapshot.version < held.snapshot.version, Refusal::WentBack);
         }
         objections.add_if(self.is_past(&new.header), Refusal::OfferedExpired);
-        objections.lowest()?;
+        objections.first()?;
         self.timestamp = Some(new);
         Ok(())
     }
 
     /// Snapshot (1 to 9, 11, 13, 14): "needs a timestamp, leans on root and timestamp".
-    pub fn snapshot(&mut self, file: &[u8], row: &[u8], digest: &[u8]) -> Result<(), Refusal> {
+    pub fn snapshot(&mut self, file: &[u8], row: &[u8]) -> Result<(), Refusal> {
         let Signed { entries, says: new } = forms::snapshot(file)?;
         let mut objections = Objections::default();
         objections.add_if(!is_row(row, &entries), Refusal::BrokenArgument);
-        objections.add_if(!is_digest(digest), Refusal::BrokenArgument);
         self.lean_on_root(&mut objections, |root| !enough(&root.snapshot, &entries, row));
         self.lean_on(&mut objections, self.timestamp.as_ref().map(|held| &held.header));
         if let Some(timestamp) = &self.timestamp {
-            judge_listed(&mut objections, &timestamp.snapshot, file, digest, &new.header);
+            judge_listed(&mut objections, &timestamp.snapshot, file, &new.header);
         }
         if let Some(held) = &self.snapshot {
             objections.add_if(went_back(held, &new), Refusal::WentBack);
         }
         objections.add_if(self.is_past(&new.header), Refusal::OfferedExpired);
-        objections.lowest()?;
+        objections.first()?;
         self.snapshot = Some(new);
         Ok(())
     }
 
     /// Targets (1 to 9, 11, 14): "needs a current snapshot", "leans on root, timestamp, snapshot".
-    pub fn targets(&mut self, file: &[u8], row: &[u8], digest: &[u8]) -> Result<(), Refusal> {
+    pub fn targets(&mut self, file: &[u8], row: &[u8]) -> Result<(), Refusal> {
         let Signed { entries, says: new } = forms::targets(file)?;
         let mut objections = Objections::default();
         objections.add_if(!is_row(row, &entries), Refusal::BrokenArgument);
-        objections.add_if(!is_digest(digest), Refusal::BrokenArgument);
         self.lean_on_root(&mut objections, |root| !enough(&root.targets, &entries, row));
         self.lean_on(&mut objections, self.timestamp.as_ref().map(|held| &held.header));
         self.lean_on(&mut objections, self.current_snapshot().map(|held| &held.header));
         if let Some(listed) = self.listed_targets() {
-            judge_listed(&mut objections, listed, file, digest, &new.header);
+            judge_listed(&mut objections, listed, file, &new.header);
         }
         objections.add_if(self.is_past(&new.header), Refusal::OfferedExpired);
-        objections.lowest()?;
+        objections.first()?;
         self.targets = Some(HeldTargets {
             header: new.header,
-            digest: hex::written(digest),
+            digest: digest_of(file),
         });
         Ok(())
     }
 
-    /// Find (1 to 8, 15): "given the targets file, its digest and a path".
-    pub fn find(&self, file: &[u8], digest: &[u8], path: &[u8]) -> Result<Target, Refusal> {
+    /// Find (1 to 4, 6 to 8, 15): given the targets file and a path. It has no verdicts, and so 5 never holds.
+    pub fn find(&self, file: &[u8], path: &[u8]) -> Result<Target, Refusal> {
         let given = forms::targets(file)?.says;
         let mut objections = Objections::default();
-        objections.add_if(!is_digest(digest), Refusal::BrokenArgument);
         self.lean_on_root(&mut objections, |_| false);
         self.lean_on(&mut objections, self.timestamp.as_ref().map(|held| &held.header));
         self.lean_on(&mut objections, self.current_snapshot().map(|held| &held.header));
         self.lean_on(&mut objections, self.current_targets().map(|held| &held.header));
         if let Some(held) = &self.targets {
-            objections.add_if(hex::written(digest) != held.digest, Refusal::Differs);
+            objections.add_if(digest_of(file) != held.digest, Refusal::Differs);
         }
         // "A path of length 0 or above 128 is 15." Such a name is in no list, and no other bytes than UTF-8 are.
         let target = std::str::from_utf8(path)
@@ -185,7 +183,7 @@ impl State {
             .filter(|path| TARGET_NAME_BYTES.contains(&path.len()))
             .and_then(|path| given.targets.get(path));
         objections.add_if(target.is_none(), Refusal::NotListed);
-        objections.lowest()?;
+        objections.first()?;
         target.cloned().ok_or(Refusal::NotListed)
     }
 
@@ -247,7 +245,7 @@ pub fn image(found: (u64, &[u8]), fetched: (u64, &[u8])) -> Result<(), Refusal> 
         objections.add_if(!is_digest(digest), Refusal::BrokenArgument);
     }
     objections.add_if(found != fetched, Refusal::Differs);
-    objections.lowest()
+    objections.first()
 }
 
 /// "one byte for each signature entry, in file order, 1 for verifies [..], 0 for does not"
@@ -257,6 +255,11 @@ fn is_row(row: &[u8], entries: &[Entry]) -> bool {
 
 fn is_digest(digest: &[u8]) -> bool {
     digest.len() == DIGEST_BYTES
+}
+
+/// The digest of a file in hex.
+fn digest_of(file: &[u8]) -> String {
+    hex::written(&sha256::digest(file))
 }
 
 /// "A key counts once for a role if that role names it and some entry with its keyid has verdict 1. Entries of other
@@ -272,12 +275,9 @@ fn enough(role: &Role, entries: &[Entry], row: &[u8]) -> bool {
 }
 
 /// "Length and digest are compared where listed. Version equals the listed one."
-fn judge_listed(objections: &mut Objections, listed: &Listed, file: &[u8], digest: &[u8], header: &Header) {
+fn judge_listed(objections: &mut Objections, listed: &Listed, file: &[u8], header: &Header) {
     let other_length = listed.length.is_some_and(|length| length != file.len() as u64);
-    let other_digest = listed
-        .sha256
-        .as_ref()
-        .is_some_and(|sha256| *sha256 != hex::written(digest));
+    let other_digest = listed.sha256.as_ref().is_some_and(|sha256| *sha256 != digest_of(file));
     objections.add_if(other_length || other_digest, Refusal::Differs);
     objections.add_if(header.version != listed.version, Refusal::WrongVersion);
 }

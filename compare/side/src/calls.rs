@@ -4,19 +4,19 @@ use paper::json;
 pub use paper::script::Call;
 use paper::script::Script;
 
-/// The answers that document 01 lists for each call. Every one of them can occur.
+/// The answers that document 01 lists for each call, in the order in which they are tried. Every one of them can occur.
 pub const ANSWERS: &[(&str, &[u8])] = &[
     ("text", &[0, 1, 2]),
     ("look", &[0, 1, 2, 3]),
     ("entry", &[0, 1, 2, 3, 15]),
     ("key", &[0, 6, 15]),
-    ("install", &[0, 1, 2, 3, 4, 5, 10]),
+    ("install", &[0, 1, 2, 3, 16, 4, 5, 10]),
     ("cycle", &[0]),
-    ("root", &[0, 1, 2, 3, 4, 5, 6, 9, 10, 11]),
+    ("root", &[0, 1, 2, 3, 16, 4, 5, 6, 9, 10, 11]),
     ("timestamp", &[0, 1, 2, 3, 4, 5, 6, 7, 9, 11, 12, 13, 14]),
     ("snapshot", &[0, 1, 2, 3, 4, 5, 6, 7, 8, 9, 11, 13, 14]),
     ("targets", &[0, 1, 2, 3, 4, 5, 6, 7, 8, 9, 11, 14]),
-    ("find", &[0, 1, 2, 3, 4, 5, 6, 7, 8, 15]),
+    ("find", &[0, 1, 2, 3, 4, 6, 7, 8, 15]),
     ("image", &[0, 5, 8]),
 ];
 
@@ -69,15 +69,16 @@ fn write_call(call: &Call, script: &mut Vec<u8>) {
             own_row,
         } => line.name("root").bytes(file).bytes(held_row).bytes(own_row),
         Call::Timestamp { file, row } => line.name("timestamp").bytes(file).bytes(row),
-        Call::Snapshot { file, row, digest } => line.name("snapshot").bytes(file).bytes(row).bytes(digest),
-        Call::Targets { file, row, digest } => line.name("targets").bytes(file).bytes(row).bytes(digest),
-        Call::Find { file, digest, path } => line.name("find").bytes(file).bytes(digest).bytes(path),
+        Call::Snapshot { file, row } => line.name("snapshot").bytes(file).bytes(row),
+        Call::Targets { file, row } => line.name("targets").bytes(file).bytes(row),
+        Call::Find { file, path } => line.name("find").bytes(file).bytes(path),
         Call::Image { found, fetched } => line
             .name("image")
             .number(found.0)
             .bytes(&found.1)
             .number(fetched.0)
             .bytes(&fetched.1),
+        Call::Sha256(bytes) => line.name("sha256").bytes(bytes),
         Call::State => line.name("state"),
     };
 }
@@ -116,7 +117,7 @@ fn explained(call: &Call) -> String {
             Ok(_) => readable(bytes),
             Err(fault) => format!("{} ({fault:?})", readable(bytes)),
         },
-        Call::Date(bytes) | Call::Key(bytes) => readable(bytes),
+        Call::Date(bytes) | Call::Key(bytes) | Call::Sha256(bytes) => readable(bytes),
         Call::Look(file)
         | Call::Entry { file, .. }
         | Call::Install { file, .. }
@@ -124,7 +125,7 @@ fn explained(call: &Call) -> String {
         | Call::Timestamp { file, .. }
         | Call::Snapshot { file, .. }
         | Call::Targets { file, .. } => readable(file),
-        Call::Find { file, path, .. } => format!("{} in {}", readable(path), readable(file)),
+        Call::Find { file, path } => format!("{} in {}", readable(path), readable(file)),
         Call::Cycle(time) => time.to_string(),
         Call::Image { found, fetched } => format!("{} and {} bytes", found.0, fetched.0),
         Call::State => "state".to_string(),
@@ -159,11 +160,12 @@ impl Player {
     }
 }
 
-/// The kind of an answer, for counting: the call and its number, or that a date has a meaning.
+/// The kind of an answer, for counting: the call and its number, or that a date has a meaning, or that it is a digest.
 pub fn kind_of(answer: &str) -> &str {
     let mut words = answer.split(' ');
     match (words.next(), words.next()) {
         (Some("date"), Some(seconds)) if seconds != "bad" => "date SECONDS",
+        (Some("sha256"), _) => "sha256",
         (Some("state"), _) => "state",
         (Some("error"), _) => "error",
         (Some(call), Some(number)) => &answer[..call.len() + 1 + number.len()],
@@ -230,18 +232,16 @@ mod tests {
             Call::Snapshot {
                 file: file.clone(),
                 row: row.clone(),
-                digest: digest.clone(),
             },
             Call::Targets {
                 file: file.clone(),
                 row,
-                digest: digest.clone(),
             },
             Call::Find {
-                file,
-                digest: digest.clone(),
+                file: file.clone(),
                 path: b"-".to_vec(),
             },
+            Call::Sha256(file),
             Call::Image {
                 found: (0, digest.clone()),
                 fetched: (u64::MAX, digest),
@@ -258,9 +258,11 @@ mod tests {
         assert_eq!(kind_of("date -1"), "date SECONDS");
         assert_eq!(kind_of("date bad"), "date bad");
         assert_eq!(kind_of("look 0 26 2 0"), "look 0");
+        assert_eq!(kind_of("sha256 e3b0c442"), "sha256");
         assert_eq!(kind_of("state root=- timestamp=-"), "state");
         assert_eq!(kind_of("error 7 unknown call"), "error");
         assert!(is_listed("timestamp 12") && !is_listed("timestamp 10") && !is_listed("text bad"));
-        assert!(is_listed("date bad") && is_listed("state") && is_listed("error"));
+        assert!(is_listed("root 16") && !is_listed("timestamp 16") && !is_listed("find 5"));
+        assert!(is_listed("date bad") && is_listed("sha256") && is_listed("state") && is_listed("error"));
     }
 }

@@ -60,7 +60,8 @@ fn good_answers_pass() {
     side("", &["--only", "forms"]).must_pass("5 passed, 0 failed");
     side("", &["--only", "look"]).must_pass("2 passed, 0 failed");
     side("", &["--only", "script"]).must_pass("2 passed, 0 failed");
-    for group in ["keys", "images", "history, by name", "published examples"] {
+    side("", &["--only", "sha256"]).must_pass("2 passed, 0 failed");
+    for group in ["keys", "keyids", "images", "history, by name", "published examples"] {
         side("", &["--only", group]).must_pass("1 passed, 0 failed");
     }
 }
@@ -399,7 +400,7 @@ fn mistakes_are_noticed_by_published_examples() {
     must_notice(
         "published examples",
         &[
-            "snapshot-length-unchecked",
+            "snapshot-digest-unchecked",
             "same-timestamp-taken",
             "same-root-taken",
             "expired-a-second-late",
@@ -407,6 +408,10 @@ fn mistakes_are_noticed_by_published_examples() {
             "key-gives-keyid",
             "look-from-1",
             "entry-from-1",
+            "keyids-unchecked",
+            "keyid-without-scheme",
+            "digest-of-the-signed-part",
+            "sha256-words-reversed",
         ],
     );
 }
@@ -469,7 +474,6 @@ fn mistakes_are_noticed_by_the_signed_shelf() {
     // The verdicts are the same whoever signs.
     let folder = Path::new(env!("CARGO_TARGET_TMPDIR")).join("no-programs");
     for mistake in [
-        "old-values-kept",
         "old-role-keys-count",
         "old-keys-kept",
         "first-roles-believed",
@@ -485,6 +489,10 @@ fn mistakes_are_noticed_by_the_signed_shelf() {
         "entry-from-1",
         "key-gives-keyid",
         "find-with-escapes",
+        "keyids-unchecked",
+        "keyids-of-named-keys-only",
+        "digest-of-the-signed-part",
+        "signed-part-found-in",
     ] {
         let run = signed_shelf(&folder, mistake);
         assert!(!run.passed, "{mistake} was not noticed");
@@ -561,6 +569,55 @@ fn mistakes_are_noticed_by_images() {
 }
 
 #[test]
+fn mistakes_are_noticed_by_digests() {
+    must_notice(
+        "sha256, published",
+        &[
+            "sha256-padding-in-one-block",
+            "sha256-padding-after-a-full-block",
+            "sha256-length-in-16-bits",
+            "sha256-first-blocks",
+            "sha256-of-a-file",
+            "sha256-to-zero-byte",
+            "sha256-in-upper-case",
+            "sha256-words-reversed",
+        ],
+    );
+    must_notice(
+        "sha256, lengths",
+        &[
+            "sha256-padding-in-one-block",
+            "sha256-padding-after-a-full-block",
+            "sha256-length-in-16-bits",
+            "sha256-first-blocks",
+            "sha256-of-a-file",
+            "sha256-to-zero-byte",
+        ],
+    );
+}
+
+#[test]
+fn mistakes_are_noticed_by_keyids() {
+    must_notice(
+        "keyids",
+        &[
+            "keyids-unchecked",
+            "keyids-of-named-keys-only",
+            "16-after-4",
+            "16-after-5",
+            "16-before-3",
+            "upper-case-keyid-16",
+            "keyid-without-unknown-members",
+            "keyid-without-scheme",
+            "keyid-of-the-public-value",
+            "keyid-60-digits",
+            "first-keyid-checked",
+            "last-keyid-checked",
+        ],
+    );
+}
+
+#[test]
 fn mistakes_are_noticed_by_forms_of_roots() {
     must_notice(
         "forms, root",
@@ -580,6 +637,9 @@ fn mistakes_are_noticed_by_forms_of_roots() {
             "stray-keyid-taken",
             "threshold-0-taken",
             "threshold-above-taken",
+            "keyids-unchecked",
+            "16-before-3",
+            "keyid-without-unknown-members",
         ],
     );
 }
@@ -713,14 +773,15 @@ fn mistakes_are_noticed_by_histories_by_name() {
             "targets-rotation-drops-all",
             "root-rotation-drops-all",
             "threshold-is-rotation",
-            "value-is-rotation",
+            "keyids-unchecked",
+            "digest-of-the-signed-part",
+            "signed-part-found-in",
             "refused-install-keeps-state",
             "refused-install-keeps-time",
             "install-keeps-records",
             "short-row-filled",
             "long-row-cut",
             "verdicts-above-1-taken",
-            "long-digest-cut",
             "state-hides-targets",
         ],
     );
@@ -743,7 +804,6 @@ fn mistakes_about_keys_are_noticed_by_histories() {
             "verdicts-above-1-taken",
             "short-row-filled",
             "long-row-cut",
-            "long-digest-cut",
             "10-before-9",
             "11-before-9",
             "9-before-8",
@@ -776,8 +836,13 @@ fn mistakes_about_roots_are_noticed_by_histories() {
             "targets-rotation-drops-all",
             "root-rotation-drops-all",
             "threshold-is-rotation",
-            "value-is-rotation",
             "first-roles-believed",
+            "keyids-unchecked",
+            "keyids-of-named-keys-only",
+            "16-after-4",
+            "16-after-5",
+            "16-before-3",
+            "keyid-without-unknown-members",
         ],
     );
 }
@@ -808,7 +873,7 @@ fn mistakes_about_versions_and_listings_are_noticed_by_histories() {
             "snapshot-length-16-bit",
             "snapshot-digest-unchecked",
             "digest-31-bytes",
-            "kept-digest-31-bytes",
+            "digest-of-the-signed-part",
             "digest-must-be-listed",
             "targets-length-unchecked",
             "targets-digest-unchecked",
@@ -839,6 +904,7 @@ fn mistakes_about_times_and_what_is_current_are_noticed_by_histories() {
             "first-digest-kept",
             "state-hides-targets",
             "find-digest-unchecked",
+            "signed-part-found-in",
             "find-with-escapes",
             "find-first-128",
             "find-in-any-case",

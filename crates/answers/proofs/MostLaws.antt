@@ -1,4 +1,4 @@
--- No call answers with a number above 15, so that every answer has its name.
+-- No call answers with a number above the highest, so that every answer has its name.
 use mathlib.Core.Path.{_≡_, refl}
 use mathlib.Core.Bool.{Bool, true, false, _&&_}
 use mathlib.Core.List.{List, [], _∷_}
@@ -8,16 +8,14 @@ use lib.Dec.{leb}
 use borrow.Author.Tests.{leb-true}
 use Rattle.base.specs.Bytes.{Bytes}
 use Rattle.base.proofs.TestLaws.{both}
-use Rattle.rules.specs.Records.{Fault, tooLong, notText, badForm, otherSpec, Read, refused, says}
+use Rattle.rules.specs.Records.{Fault, tooLong, notText, badForm, otherKeyid, otherSpec, Read, refused, says}
 use Rattle.rules.specs.State.{State, Install, Call, newCycle, newRoot, newTimestamp, newSnapshot, newTargets, find, askKey, askState, rootIn, timestampIn, snapshotIn, targetsIn}
 use Rattle.rules.specs.Table.{Refusal, _when_, first}
 use Rattle.rules.specs.Steps.{installTable, cycleTable, rootTable, timestampTable, snapshotTable, targetsTable, findTable, keyTable, faultNumber, judged, installAnswer, answer}
 use Rattle.rules.specs.Asked.{Found, imageTable, imageAnswer}
+use Rattle.answers.specs.Number.{highest}
 
-abbrev highest : ℕ
-highest = 15
-
--- no line has a number above 15
+-- no line has a number above it
 abbrev below : List Refusal → Bool
 below [] = true
 below (n when b ∷ rest) = leb n highest && below rest
@@ -33,6 +31,7 @@ unfolding faultNumber
 fault-most tooLong = omega arith
 fault-most notText = omega arith
 fault-most badForm = omega arith
+fault-most otherKeyid = omega arith
 fault-most otherSpec = omega arith
 
 judged-most : {A : Type 0} (r : Read A) (table : A → List Bytes → List Refusal) → ((a : A) (es : List Bytes) → below (table a es) ≡ true)

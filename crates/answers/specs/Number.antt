@@ -1,7 +1,7 @@
--- 01's number of each answer.
+-- The number of each answer: 01's table, and A1.
 use Prim.Native.Nat.{ℕ}
 use Rattle.answers.specs.declared.Answer.{Answer}
-use Rattle.answers.specs.declared.Answer.the-variants.{Accepted, TooLong, NotText, BadForm, OtherSpec, BadArgument, NotHeld, HeldExpired, OtherContent, FewHeldKeys, FewOwnKeys, WrongVersion, NoNews, WentBack, FileExpired, NotListed}
+use Rattle.answers.specs.declared.Answer.the-variants.{Accepted, TooLong, NotText, BadForm, OtherSpec, BadArgument, NotHeld, HeldExpired, OtherContent, FewHeldKeys, FewOwnKeys, WrongVersion, NoNews, WentBack, FileExpired, NotListed, OtherKeyid}
 
 abbrev pub numberOf : Answer → ℕ
 -- "0 if none"
@@ -36,3 +36,9 @@ numberOf WentBack = 13
 numberOf FileExpired = 14
 -- "not listed"
 numberOf NotListed = 15
+-- A1: a keyid in a key table is not the digest of its key
+numberOf OtherKeyid = 16
+
+-- the highest number of an answer
+abbrev pub highest : ℕ
+highest = 16

@@ -1,7 +1,7 @@
 // What the controller says (01's table), as an enum. specs/Number.antt gives each its number.
 ghost use mathlib.Core.Path.{_≡_};
 ghost use Prim.Native.Nat.{min};
-ghost use Rattle.answers.specs.Number.{numberOf};
+ghost use Rattle.answers.specs.Number.{numberOf, highest};
 
 pub enum Answer {
     Accepted,
@@ -20,6 +20,7 @@ pub enum Answer {
     WentBack,
     FileExpired,
     NotListed,
+    OtherKeyid,
 }
 
 // 01's number.
@@ -43,12 +44,13 @@ pub fn number(a: Answer) -> u8
         Answer::WentBack => 13,
         Answer::FileExpired => 14,
         Answer::NotListed => 15,
+        Answer::OtherKeyid => 16,
     }
 }
 
-// The answer of that number. No call gives a number above 15.
+// The answer of that number. No call gives a number above the highest.
 pub fn numbered(n: u8) -> Answer
-    ensures { λ r. ⌜ numberOf r ≡ min n 15 ⌝ }
+    ensures { λ r. ⌜ numberOf r ≡ min n highest ⌝ }
 {
     match n {
         0 => Answer::Accepted,
@@ -66,6 +68,7 @@ pub fn numbered(n: u8) -> Answer
         12 => Answer::NoNews,
         13 => Answer::WentBack,
         14 => Answer::FileExpired,
-        15..=255 => Answer::NotListed,
+        15 => Answer::NotListed,
+        16..=255 => Answer::OtherKeyid,
     }
 }

@@ -2,7 +2,7 @@
 use mathlib.Core.Path.{_≡_}
 use mathlib.Core.List.{[], _∷_}
 use mathlib.Core.Bool.{Bool, true, cond, _&&_}
-use Prim.Native.Nat.{ℕ, _+_, _-_, _*_}
+use Prim.Native.Nat.{ℕ, _+_, _-_, _*_, _/_, _%_}
 use lib.ListN.{length}
 use lib.Dec.{leb, ltb, eqb}
 use Rattle.base.specs.Bytes.{Bytes, isDigit}
@@ -25,6 +25,15 @@ unfoldable pub undo : Bytes → Bytes
 undo [] = []
 undo (a ∷ []) = []
 undo (a ∷ (b ∷ s)) = (digitOf a * 16 + digitOf b) ∷ undo s
+
+-- the digit of a value below 16
+unfoldable pub hexDigit : ℕ → ℕ
+hexDigit d = cond (ltb d 10) (48 + d) (87 + d)
+
+-- bytes as digits
+unfoldable pub hexOf : Bytes → Bytes
+hexOf [] = []
+hexOf (b ∷ s) = hexDigit (b / 16) ∷ (hexDigit (b % 16) ∷ hexOf s)
 
 -- Digits s are undone into a buffer: refused, and the buffer as before, unless they are exactly as many bytes as it has.
 pub record Undone (s before : Bytes) (accepted : Bool) (after : Bytes) : Type 0 where

@@ -4,6 +4,7 @@ ghost use mathlib.Core.Path.{_≡_};
 ghost use mathlib.Core.Bool.{true};
 ghost use mathlib.Core.Logic.{_↔_};
 ghost use Rattle.json.specs.Json.{Canonical, maxDepth};
+ghost use Rattle.sha256.specs.Message.{digestOf};
 ghost use Rattle.rules.specs.State.{blank as blankState, newCycle, newRoot, newTimestamp, newSnapshot, newTargets};
 ghost use Rattle.rules.specs.Steps.{Began};
 ghost use Rattle.rules.specs.Asked.{imageAnswer, look as lookInto, entryAt};
@@ -102,24 +103,24 @@ pub extern "C" fn gronwythal_timestamp(state: State, file: &[u8], row: &[u8]) ->
 }
 
 #[no_mangle]
-pub extern "C" fn gronwythal_snapshot(state: State, file: &[u8], row: &[u8], digest: &[u8]) -> Step
-    ensures { λ r. ⌜ Steps state (newSnapshot (record { file = now (file .entry); row = now (row .entry); digest = now (digest .entry) })) (r .answer) (r .state) ⌝ }
+pub extern "C" fn gronwythal_snapshot(state: State, file: &[u8], row: &[u8]) -> Step
+    ensures { λ r. ⌜ Steps state (newSnapshot (record { file = now (file .entry); row = now (row .entry) })) (r .answer) (r .state) ⌝ }
 {
-    numbered(state.snapshot(file, row, digest))
+    numbered(state.snapshot(file, row))
 }
 
 #[no_mangle]
-pub extern "C" fn gronwythal_targets(state: State, file: &[u8], row: &[u8], digest: &[u8]) -> Step
-    ensures { λ r. ⌜ Steps state (newTargets (record { file = now (file .entry); row = now (row .entry); digest = now (digest .entry) })) (r .answer) (r .state) ⌝ }
+pub extern "C" fn gronwythal_targets(state: State, file: &[u8], row: &[u8]) -> Step
+    ensures { λ r. ⌜ Steps state (newTargets (record { file = now (file .entry); row = now (row .entry) })) (r .answer) (r .state) ⌝ }
 {
-    numbered(state.targets(file, row, digest))
+    numbered(state.targets(file, row))
 }
 
 #[no_mangle]
-pub extern "C" fn gronwythal_find(state: State, file: &[u8], digest: &[u8], path: &[u8]) -> Image
-    ensures { λ r. ⌜ FindsImage state (record { file = now (file .entry); digest = now (digest .entry); path = now (path .entry) }) (r .answer) (viewImage r) ⌝ }
+pub extern "C" fn gronwythal_find(state: State, file: &[u8], path: &[u8]) -> Image
+    ensures { λ r. ⌜ FindsImage state (record { file = now (file .entry); path = now (path .entry) }) (r .answer) (viewImage r) ⌝ }
 {
-    let found = state.find(file, digest, path);
+    let found = state.find(file, path);
     let a = found.answer;
     let answer = answers::number(a);
     let listed = found.digest;
@@ -159,6 +160,14 @@ pub extern "C" fn gronwythal_check_image(
 {
     let a = tuf::check_image(listed, digest, fetched, hash);
     answers::number(a)
+}
+
+// SHA-256 of the lent bytes.
+#[no_mangle]
+pub extern "C" fn gronwythal_sha256(bytes: &[u8]) -> Id
+    ensures { λ r. ⌜ viewId r ≡ digestOf (now (bytes .entry)) ⌝ }
+{
+    tuf::digest(bytes)
 }
 
 // ---- Looking into a file: a part cannot be returned to C, so its place and length are

@@ -5,11 +5,11 @@ use Prim.Native.Nat.{ℕ}
 use Prim.Native.String.{String}
 use lib.IntN.{pos}
 use Rattle.base.specs.Bytes.{Bytes, bytes}
-use Rattle.rules.specs.Forms.{entries}
+use Rattle.sha256.proofs.Computing.{digests}
 use Rattle.rules.specs.State.{Row}
 use Rattle.rules.specs.Steps.{installAnswer}
 use Rattle.rules.specs.Asked.{look}
-use Rattle.rules.proofs.Texts.{quoted, k, l, keyText, roleText, rootText}
+use Rattle.cases.proofs.Texts.{quoted, m, n, k, l, keyText, roleText, rootText}
 use Rattle.rules.proofs.Cases.{Case, _gives_, Right}
 use Rattle.rules.proofs.Computing.{calls}
 
@@ -18,27 +18,23 @@ use Rattle.rules.proofs.Computing.{calls}
 abbrev pub install : Bytes → Row → ℕ
 install file row = installAnswer (record { file = file; row = row; start = pos 0 })
 
--- with one key, and that root role and spec_version
+-- of that key table, which has k, with that root role and spec_version
+abbrev pub tabled : Bytes → Bytes → String → String → Row → ℕ
+tabled table keyids threshold spec row = install (rootText table (roleText keyids threshold) (roleText (quoted k) "1") spec "1") row
+
+-- with one key
 abbrev pub installed : Bytes → String → String → Row → ℕ
-installed keyids threshold spec row = install (rootText (keyText k k) (roleText keyids threshold) (roleText (quoted k) "1") spec "1") row
+installed = tabled (keyText k m)
 
 -- with two keys, the second of that public value, and both in the root role
 abbrev pub twoKeys : Bytes → String → Row → ℕ
-twoKeys public threshold row =
-    install (rootText (keyText k k ++ bytes "," ++ keyText l public) (roleText (quoted l ++ bytes "," ++ quoted k) threshold) (roleText (quoted k) "1") "1" "1") row
+twoKeys public threshold row = tabled (keyText k m ++ bytes "," ++ keyText l public) (quoted l ++ bytes "," ++ quoted k) threshold "1" row
 
-abbrev pub installs : List (Case ℕ)
-installs =
+abbrev pub specs : List (Case ℕ)
+specs =
     installed (quoted k) "1" "1.0.26" (1 ∷ []) gives 0
-    ∷ installed (quoted k) "1" "1.0.26" (0 ∷ []) gives 10
-    -- "a verdict row of another length than the entries, a verdict not 0 or 1"
-    ∷ installed (quoted k) "1" "1.0.26" [] gives 5
-    ∷ installed (quoted k) "1" "1.0.26" (1 ∷ 1 ∷ []) gives 5
-    ∷ installed (quoted k) "1" "1.0.26" (2 ∷ []) gives 5
     -- "exactly `1` or beginning with `1.`. Any other string is refusal 4"
-    ∷ installed (quoted k) "1" "1" (1 ∷ []) gives 0
     ∷ installed (quoted k) "1" "10" (1 ∷ []) gives 4
-    ∷ installed (quoted k) "1" "2.0" (1 ∷ []) gives 4
     -- "a threshold from 1 to the number of those keyids", and 3 before 4
     ∷ installed (quoted k) "0" "1" (1 ∷ []) gives 3
     ∷ installed (quoted k) "2" "1" (1 ∷ []) gives 3
@@ -47,18 +43,51 @@ installs =
     ∷ installed [] "1" "1" (1 ∷ []) gives 3
     ∷ installed (quoted k ++ bytes "," ++ quoted k) "1" "1" (1 ∷ []) gives 3
     ∷ installed (quoted l) "1" "1" (1 ∷ []) gives 3
-    -- two keys; "no two keyids of one file may have the same public value"
-    ∷ twoKeys l "2" (1 ∷ []) gives 10
-    ∷ twoKeys l "1" (1 ∷ []) gives 0
-    ∷ twoKeys k "1" (1 ∷ []) gives 3
     -- "nothing after the value"; "empty input included"
-    ∷ install (rootText (keyText k k) (roleText (quoted k) "1") (roleText (quoted k) "1") "1" "1" ++ bytes " ") (1 ∷ []) gives 2
+    ∷ install (rootText (keyText k m) (roleText (quoted k) "1") (roleText (quoted k) "1") "1" "1" ++ bytes " ") (1 ∷ []) gives 2
     ∷ install [] [] gives 2
     ∷ []
 
-pub installs-right : Right installs
-unfolding calls
-installs-right = refl
+pub specs-right : Right specs
+unfolding calls digests
+specs-right = refl
+
+-- two keys; "no two keyids of one file may have the same public value"
+abbrev pub keys : List (Case ℕ)
+keys =
+    twoKeys n "2" (1 ∷ []) gives 10
+    ∷ twoKeys m "1" (1 ∷ []) gives 3
+    ∷ []
+
+pub keys-right : Right keys
+unfolding calls digests
+keys-right = refl
+
+-- A1: "A key table's keyid must be the hex digest of the canonical text of its key", else 16, "tried between 3 and 4"
+abbrev pub others : List (Case ℕ)
+others =
+    tabled (keyText k n) (quoted k) "1" "1" (1 ∷ []) gives 16
+    ∷ tabled (keyText k n) (quoted k) "1" "2.0" (1 ∷ []) gives 16
+    ∷ tabled (keyText k n) (quoted k) "2" "1" (1 ∷ []) gives 3
+    ∷ []
+
+pub others-right : Right others
+unfolding calls digests
+others-right = refl
+
+-- "unknown members included": a key with a member more has another keyid than l
+abbrev pub member : Bytes → Bytes
+member keyid = quoted keyid ++ bytes ":{\"keytype\":\"ed25519\",\"keyval\":{\"public\":" ++ quoted n ++ bytes "},\"scheme\":\"ed25519\",\"x\":1}"
+
+abbrev pub unknown : List (Case ℕ)
+unknown =
+    tabled (keyText k m ++ bytes "," ++ member (bytes "ae22165e45ff6f18705d5123eb4081e05c032da1951e25dbebf93458e3d7b47d")) (quoted k) "1" "1" (1 ∷ []) gives 0
+    ∷ tabled (keyText k m ++ bytes "," ++ member l) (quoted k) "1" "1" (1 ∷ []) gives 16
+    ∷ []
+
+pub unknown-right : Right unknown
+unfolding calls digests
+unknown-right = refl
 
 -- ## Looked into: "2 bytes from place 26, and 0 entries"
 

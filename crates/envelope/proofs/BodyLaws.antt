@@ -19,7 +19,7 @@ use Rattle.rules.specs.State.{kept}
 abbrev mapped : {A B : Type 0} → (A → B) → File A → File B
 mapped g f = record { specVersion = f .specVersion; version = f .version; expires = f .expires; body = g (f .body) }
 
-module _ {A B C : Type 0} (type : Bytes) (body : Json → Option A) (g : A → B) (h : File B → C) where
+module _ {A B C : Type 0} (type : Bytes) (body : Json → Option A) (keyids : Json → Bool) (g : A → B) (h : File B → C) where
   abbrev then : Json → Option B
   then v = body v >>= λ a. some (g a)
 
@@ -37,26 +37,28 @@ module _ {A B C : Type 0} (type : Bytes) (body : Json → Option A) (g : A → B
       go (some t) (some s) (some n) (some x) none = refl
       go (some t) (some s) (some n) (some x) (some b) = refl
 
-  spoken-then : (e : Envelope) (o : Option (File A)) → kept (λ f. h (mapped g f)) (spoken e o) ≡ kept h (spoken e (o >>= λ f. some (mapped g f)))
+  spoken-then : (e : Envelope) (own : Bool) (o : Option (File A))
+      → kept (λ f. h (mapped g f)) (spoken e own o) ≡ kept h (spoken e own (o >>= λ f. some (mapped g f)))
   unfolding spoken known kept bind
-  spoken-then e none = refl
-  spoken-then e (some f) = go (knownSpec (f .specVersion))
+  spoken-then e own none = refl
+  spoken-then e false (some f) = refl
+  spoken-then e true (some f) = go (knownSpec (f .specVersion))
     where
       go : (b : Bool) → kept (λ f. h (mapped g f)) (cond b (says f (keyidsOf (e .entries))) (refused otherSpec))
           ≡ kept h (cond b (says (mapped g f) (keyidsOf (e .entries))) (refused otherSpec))
       go true = refl
       go false = refl
 
-  pub read-then : (file : Bytes) → kept (λ f. h (mapped g f)) (readAs type body file) ≡ kept h (readAs type then file)
+  pub read-then : (file : Bytes) → kept (λ f. h (mapped g f)) (readAs type body keyids file) ≡ kept h (readAs type then keyids file)
   unfolding readAs readWith judgedText inEnvelope kept
   read-then file = go (leb (length file) maxFile) (parsed file)
     where
-      inner : (e : Option Envelope) → kept (λ f. h (mapped g f)) (inEnvelope (fileOf type body) e) ≡ kept h (inEnvelope (fileOf type then) e)
+      inner : (e : Option Envelope) → kept (λ f. h (mapped g f)) (inEnvelope (fileOf type body) keyids e) ≡ kept h (inEnvelope (fileOf type then) keyids e)
       inner none = refl
-      inner (some e) = rw (file-then (e .signed)) (spoken-then e (fileOf type body (e .signed)))
+      inner (some e) = rw (file-then (e .signed)) (spoken-then e (keyids (e .signed)) (fileOf type body (e .signed)))
 
-      go : (b : Bool) (o : Option Json) → kept (λ f. h (mapped g f)) (cond b (judgedText (λ v. inEnvelope (fileOf type body) (envelope v)) o) (refused tooLong))
-          ≡ kept h (cond b (judgedText (λ v. inEnvelope (fileOf type then) (envelope v)) o) (refused tooLong))
+      go : (b : Bool) (o : Option Json) → kept (λ f. h (mapped g f)) (cond b (judgedText (λ v. inEnvelope (fileOf type body) keyids (envelope v)) o) (refused tooLong))
+          ≡ kept h (cond b (judgedText (λ v. inEnvelope (fileOf type then) keyids (envelope v)) o) (refused tooLong))
       go false o = refl
       go true none = refl
       go true (some v) = inner (envelope v)

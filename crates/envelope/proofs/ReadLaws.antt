@@ -1,5 +1,5 @@
 -- What the number of a reading says: 0 that the file was read, and else which refusal it is.
-use mathlib.Core.Path.{_≡_, refl, sym, _∙_}
+use mathlib.Core.Path.{_≡_, refl, sym, ap, _∙_}
 use mathlib.Core.Option.{Option, none, some, bind}
 use mathlib.Core.List.{List}
 use mathlib.Core.Bool.{Bool, true, false, cond}
@@ -7,28 +7,26 @@ use Prim.Native.Nat.{ℕ}
 use lib.Dec.{eqb}
 use borrow.Author.Tests.{eq-eqb, ne-eqb, eqb-true}
 use Rattle.base.specs.Bytes.{Bytes}
-use Rattle.json.specs.Fields.{keep}
 use Rattle.rules.specs.Take.{_>>=_}
-use Rattle.rules.specs.Records.{Fault, tooLong, notText, badForm, otherSpec, Read, refused, says}
+use Rattle.rules.specs.Records.{Fault, tooLong, notText, badForm, otherKeyid, otherSpec, Read, refused, says}
 use Rattle.rules.specs.Table.{Refusal}
 use Rattle.rules.specs.Steps.{faultNumber, judged}
 use Rattle.rules.proofs.OptionLaws.{none-not-some, some-is}
 use Rattle.envelope.specs.Open.{fault, viewRead}
 
-fault-is : (n : ℕ) (f : Fault) → fault n ≡ some f → faultNumber f ≡ n
-unfolding fault faultNumber keep
-fault-is n f e = go (eqb n 1) (eqb n 2) (eqb n 3) (eqb n 4) refl refl refl refl e
+-- the number of g, or one of the rest
+one-fault : (n : ℕ) (f g : Fault) (rest : Option Fault) → (rest ≡ some f → faultNumber f ≡ n) → cond (eqb n (faultNumber g)) (some g) rest ≡ some f → faultNumber f ≡ n
+one-fault n f g rest later e = go (eqb n (faultNumber g)) refl e
   where
-    is : (k : ℕ) (g : Fault) → eqb n k ≡ true → faultNumber g ≡ k → some g ≡ some f → faultNumber f ≡ n
-    is k g t m q = let z = some-is q in let y : n ≡ k = eqb-true n k t in rw (← z) (m ∙ sym y)
+    go : (b : Bool) → eqb n (faultNumber g) ≡ b → cond b (some g) rest ≡ some f → faultNumber f ≡ n
+    go true t e = ap faultNumber (sym (some-is e)) ∙ sym (eqb-true n (faultNumber g) t)
+    go false t e = later e
 
-    go : (a b c d : Bool) → eqb n 1 ≡ a → eqb n 2 ≡ b → eqb n 3 ≡ c → eqb n 4 ≡ d
-        → cond a (some tooLong) (cond b (some notText) (cond c (some badForm) (keep d otherSpec))) ≡ some f → faultNumber f ≡ n
-    go true b c d p q r s e = is 1 tooLong p refl e
-    go false true c d p q r s e = is 2 notText q refl e
-    go false false true d p q r s e = is 3 badForm r refl e
-    go false false false true p q r s e = is 4 otherSpec s refl e
-    go false false false false p q r s e = none-not-some e
+fault-is : (n : ℕ) (f : Fault) → fault n ≡ some f → faultNumber f ≡ n
+unfolding fault faultNumber
+fault-is n f =
+    one-fault n f tooLong _
+    (one-fault n f notText _ (one-fault n f badForm _ (one-fault n f otherSpec _ (one-fault n f otherKeyid none none-not-some))))
 
 module _ {A : Type 0} (n : ℕ) (a : A) (es : List Bytes) (rd : Read A) (w : viewRead n a es ≡ some rd) where
   pub read-says : n ≡ 0 → rd ≡ says a es

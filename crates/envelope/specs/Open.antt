@@ -1,6 +1,6 @@
 -- What an opened file says, and a role's file when it is read.
 use mathlib.Core.Path.{_≡_}
-use mathlib.Core.Option.{Option, some}
+use mathlib.Core.Option.{Option, none, some}
 use mathlib.Core.List.{List, []}
 use mathlib.Core.Bool.{cond}
 use Prim.Native.Nat.{ℕ}
@@ -8,10 +8,10 @@ use lib.Dec.{eqb}
 use lib.ListN.{length}
 use Rattle.base.specs.Bytes.{Bytes}
 use Rattle.json.specs.Json.{Json, put}
-use Rattle.json.specs.Fields.{members, keep}
+use Rattle.json.specs.Fields.{members}
 use Rattle.lookup.specs.Place.{Stands}
 use Rattle.rules.specs.Take.{_>>=_}
-use Rattle.rules.specs.Records.{Fault, tooLong, notText, badForm, otherSpec, Read, refused, says}
+use Rattle.rules.specs.Records.{Fault, tooLong, notText, badForm, otherKeyid, otherSpec, Read, refused, says}
 use Rattle.rules.specs.Forms.{Envelope}
 use Rattle.rules.specs.Reading.{keyidsOf}
 use Rattle.rules.specs.Steps.{faultNumber}
@@ -45,8 +45,10 @@ Opens file r (says e ks) = IsOpen file r e
 -- ## A role's file, read: the refusal of that number, or what it says
 
 unfoldable pub fault : ℕ → Option Fault
-fault n = cond (eqb n 1) (some tooLong) (cond (eqb n 2) (some notText) (cond (eqb n 3) (some badForm) (keep (eqb n 4) otherSpec)))
+fault n =
+    cond (eqb n 1) (some tooLong)
+    (cond (eqb n 2) (some notText) (cond (eqb n 3) (some badForm) (cond (eqb n 4) (some otherSpec) (cond (eqb n 16) (some otherKeyid) none))))
 
--- a number above 4 says nothing
+-- any other number says nothing
 unfoldable pub viewRead : {A : Type 0} → ℕ → A → List Bytes → Option (Read A)
 viewRead n a es = cond (eqb n 0) (some (says a es)) (fault n >>= λ f. some (refused f))

@@ -33,6 +33,8 @@ pub const BAD_FORM: u8 = 3;
 
 pub const OTHER_SPEC: u8 = 4;
 
+pub const OTHER_KEYID: u8 = 16;
+
 // ---- Signature entries
 
 // An entry, by where the digits of its keyid and of its signature stand, and where it ends.

@@ -13,8 +13,10 @@ use Rattle.rules.specs.Words.{GoodRow, Enough}
 use Rattle.rules.specs.Exactly.{RootRead}
 use Rattle.rules.specs.History.{History, run, end, Event, begins, calls, events, happened, BecomesTrusted, Apart, upTo, Demand3}
 use Rattle.rules.proofs.TableLaws.{one-held}
+use Rattle.rules.proofs.KeyidLaws.{one-key}
 use Rattle.rules.proofs.ExactlyLaws.{install-good, install-after}
 use Rattle.history.proofs.Trusted.{TrustedBy, root, trusted-by, by-trusted, read-next, read-installed}
+use Rattle.history.proofs.Keyids.{own-keyids}
 use Rattle.history.proofs.Falls.{Rising, rising-same, rising-trans, rising, roots-rise, timestamps-rise, snapshots-rise, targets-rise}
 use Rattle.history.proofs.Held.{root-held, timestamp-held, snapshot-held, targets-held}
 use Rattle.history.proofs.Publisher.{through}
@@ -141,6 +143,8 @@ demand3 h =
       heldTimestamp = timestamp-held h;
       heldSnapshot = snapshot-held h;
       heldTargets = targets-held h;
+      keyids = λ e r m t. own-keyids t;
+      oneKey = λ e₁ e₂ r₁ r₂ m₁ m₂ t₁ t₂ k l i j. one-key k l (own-keyids t₁ k i) (own-keyids t₂ l j);
       rootExactly =
           λ s′ o r es m reads heldRow ownRow.
           let at = reached s read (h .calls) s′ (newRoot o) (in-events h s′ (newRoot o) m) in

@@ -5,7 +5,6 @@ pub mod Falls
 pub mod Held
 pub mod Publisher
 pub mod Demand2
+pub mod Keyids
 pub mod Demand3
 pub mod Program
-pub mod WitnessFiles
-pub mod Witness

@@ -1,21 +1,29 @@
 -- "The lowest number whose condition holds, of those the call uses; 0 if none": each table's numbers do not fall, and are above reading's 1
--- to 4.
+-- to 4; reading's 16 is tried between 3 and 4.
 use mathlib.Core.Path.{_≡_, refl}
-use mathlib.Core.Bool.{Bool, true, false}
+use mathlib.Core.Logic.{_↔_, _⊎_, inl, inr}
+use mathlib.Core.Bool.{Bool, true, false, cond}
+use mathlib.Core.Option.{Option, none, some}
 use mathlib.Core.List.{List, [], _∷_, List·Memᴰ, List·Memᴰ·head, List·Memᴰ·tail}
 use Prim.Native.Nat.{ℕ, _≤_, _<_}
 use native.Mathlib.Omega.{arith}
 use native.Mathlib.Nat.{le-trans}
 use lib.Dec.{leb}
-use borrow.Author.Tests.{leb-true}
-use Rattle.base.specs.Bytes.{Bytes}
+use lib.ListN.{length}
+use borrow.Author.Tests.{leb-true, le-leb}
+use Rattle.base.specs.Bytes.{Bytes, bytes}
 use Rattle.base.proofs.TestLaws.{never, both}
-use Rattle.rules.specs.Records.{Fault, tooLong, notText, badForm, otherSpec, Read, refused, says}
-use Rattle.rules.specs.State.{rootIn, timestampIn, snapshotIn, targetsIn}
+use Rattle.json.specs.Json.{Json}
+use Rattle.rules.specs.Limits.{maxFile}
+use Rattle.rules.specs.Records as records
+use Rattle.rules.specs.Records.{File, Fault, tooLong, notText, badForm, otherKeyid, otherSpec, Read, refused, says}
+use Rattle.rules.specs.Forms.{Envelope, envelope, knownSpec, fileOf, root, rootKeyids}
+use Rattle.rules.specs.Reading.{parsed, judgedText, readWith, keyidsOf, known, spoken, inEnvelope, readAs, readRoot}
+use Rattle.rules.specs.State.{keepRoot, kept, rootIn, timestampIn, snapshotIn, targetsIn}
 use Rattle.rules.specs.Table.{Refusal, _when_, first}
 use Rattle.rules.specs.Steps.{installTable, rootTable, timestampTable, snapshotTable, targetsTable, findTable, keyTable, faultNumber, judged, installAnswer, answer}
 use Rattle.rules.specs.Asked.{imageTable, imageAnswer}
-use Rattle.rules.specs.Lowest.{LowestOf, noneHolds, holds, Judgement, unread, judges, Lowest}
+use Rattle.rules.specs.Lowest.{LowestOf, noneHolds, holds, Judgement, unread, judges, OtherKeyid, Lowest}
 use Rattle.rules.proofs.TableLaws.{rising}
 
 -- no line has a number below m
@@ -49,12 +57,13 @@ lowest m (k when true ∷ rest) t = holds (List·Memᴰ·head refl) least
     least n (List·Memᴰ·tail i) = none-below k rest (both (leb m k) (rising k rest) t .1) n true i
 lowest m (k when false ∷ rest) t = passed-over (lowest k rest (both (leb m k) (rising k rest) t .1))
 
-fault-below : (f : Fault) → faultNumber f < 5
+fault-below : (f : Fault) → (faultNumber f < 5) ⊎ (faultNumber f ≡ 16)
 unfolding faultNumber
-fault-below tooLong = omega arith
-fault-below notText = omega arith
-fault-below badForm = omega arith
-fault-below otherSpec = omega arith
+fault-below tooLong = inl (omega arith)
+fault-below notText = inl (omega arith)
+fault-below badForm = inl (omega arith)
+fault-below otherKeyid = inr refl
+fault-below otherSpec = inl (omega arith)
 
 judgement : {A : Type 0} (rd : Read A) (table : A → List Bytes → List Refusal) → ((a : A) (es : List Bytes) → rising 5 (table a es) ≡ true)
     → Judgement rd table (judged rd table)
@@ -62,12 +71,52 @@ unfolding judged
 judgement (refused f) table t = unread refl (fault-below f)
 judgement (says a es) table t = judges refl (none-below 5 (table a es) (t a es)) (lowest 5 (table a es) (t a es))
 
+-- ## 16
+
+sixteen : (file : Bytes) → (rootIn file ≡ refused otherKeyid) ↔ OtherKeyid file
+unfolding rootIn readRoot readAs readWith judgedText inEnvelope spoken known kept
+sixteen file = (there, back)
+  where
+    knows : (v : Json) (e : Envelope) (f : File records.Root) → length file ≤ maxFile → parsed file ≡ some v → envelope v ≡ some e
+        → fileOf (bytes "root") root (e .signed) ≡ some f → (own : Bool) → rootKeyids (e .signed) ≡ own → (b : Bool)
+        → kept keepRoot (cond own (cond b (says f (keyidsOf (e .entries))) (refused otherSpec)) (refused otherKeyid)) ≡ refused otherKeyid
+        → OtherKeyid file
+    knows v e f l p q r true o true h = never (cc)
+    knows v e f l p q r true o false h = never (cc)
+    knows v e f l p q r false o b h =
+        record { value = v; envelope-is = e; says = f; fits = l; text = p; opens = q; form = r; broken = o }
+
+    speaks : (v : Json) (e : Envelope) → length file ≤ maxFile → parsed file ≡ some v → envelope v ≡ some e
+        → (o : Option (File records.Root)) → fileOf (bytes "root") root (e .signed) ≡ o
+        → kept keepRoot (spoken e (rootKeyids (e .signed)) o) ≡ refused otherKeyid → OtherKeyid file
+    speaks v e l p q none r h = never (cc)
+    speaks v e l p q (some f) r h = knows v e f l p q r (rootKeyids (e .signed)) refl (knownSpec (f .specVersion)) h
+
+    opens : (v : Json) → length file ≤ maxFile → parsed file ≡ some v → (o : Option Envelope) → envelope v ≡ o
+        → kept keepRoot (inEnvelope (fileOf (bytes "root") root) rootKeyids o) ≡ refused otherKeyid → OtherKeyid file
+    opens v l p none q h = never (cc)
+    opens v l p (some e) q h = speaks v e l p q (fileOf (bytes "root") root (e .signed)) refl h
+
+    values : (b : Bool) → leb (length file) maxFile ≡ b → (o : Option Json) → parsed file ≡ o
+        → kept keepRoot (cond b (judgedText (λ v. inEnvelope (fileOf (bytes "root") root) rootKeyids (envelope v)) o) (refused tooLong)) ≡ refused otherKeyid
+        → OtherKeyid file
+    values true l none p h = never (cc)
+    values true l (some v) p h = opens v (leb-true (length file) maxFile l) p (envelope v) refl h
+    values false l o p h = never (cc)
+
+    there : rootIn file ≡ refused otherKeyid → OtherKeyid file
+    there h = values (leb (length file) maxFile) refl (parsed file) refl h
+
+    back : OtherKeyid file → rootIn file ≡ refused otherKeyid
+    back w = rw (le-leb (length file) maxFile (w .fits), w .text, w .opens, w .form, w .broken)
+
 -- ## Every call that refuses
 
 pub lowest-of-each : Lowest
 unfolding installTable rootTable timestampTable snapshotTable targetsTable findTable keyTable imageTable installAnswer answer imageAnswer
 lowest-of-each =
     record {
+      sixteen = sixteen;
       ofInstall = λ o. judgement (rootIn (o .file)) (installTable o) (λ r es. refl);
       ofRoot = λ s o. judgement (rootIn (o .file)) (rootTable s o) (λ r es. refl);
       ofTimestamp = λ s o. judgement (timestampIn (o .file)) (timestampTable s o) (λ t es. refl);

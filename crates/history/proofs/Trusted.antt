@@ -7,7 +7,7 @@ use mathlib.Core.List.{List}
 use native.Mathlib.Decide.{ℕ-discrete}
 use Rattle.base.specs.Bytes.{Bytes}
 use Rattle.rules.specs.Records.{Image, File, says}
-use Rattle.rules.specs.State.{Root, Timestamp, Snapshot, State, keepTargets, rootIn, Install, RootOffer, TimestampOffer, FileOffer, Call, newCycle, newRoot, newTimestamp, newSnapshot, newTargets, find, askKey, askState}
+use Rattle.rules.specs.State.{Root, Timestamp, Snapshot, State, keepTargets, rootIn, Install, RootOffer, FileOffer, Call, newCycle, newRoot, newTimestamp, newSnapshot, newTargets, find, askKey, askState}
 use Rattle.rules.specs.Steps.{answer, next, installAnswer, installed, rootAlone, withStart, withRoot, withTimestamp, withSnapshot, withTargets, Item, aRoot, aTimestamp, aSnapshot, aTargets, afterRoot, trusting, offered, started}
 use Rattle.rules.specs.Exactly.{RootGood, TimestampGood, SnapshotGood, TargetsGood, RootRead}
 use Rattle.rules.specs.History.{calls, BecomesTrusted, atCall, Idle}
@@ -20,10 +20,10 @@ use Rattle.rules.proofs.ExactlyLaws.{root-good, good-root, root-offered, root-a
 
 pub data TrustedBy (s : State) : Call → Item → Type 0 where
   root : {o : RootOffer} {r : Root} → RootGood s o r → TrustedBy s (newRoot o) (aRoot r)
-  timestamp : {o : TimestampOffer} {t : Timestamp} → TimestampGood s o t → TrustedBy s (newTimestamp o) (aTimestamp t)
+  timestamp : {o : FileOffer} {t : Timestamp} → TimestampGood s o t → TrustedBy s (newTimestamp o) (aTimestamp t)
   snapshot : {o : FileOffer} {n : Snapshot} → SnapshotGood s o n → TrustedBy s (newSnapshot o) (aSnapshot n)
   targets : {o : FileOffer} {g : File (List Image)} → TargetsGood s o g
-      → TrustedBy s (newTargets o) (aTargets (keepTargets g (o .digest)))
+      → TrustedBy s (newTargets o) (aTargets (keepTargets (o .file) g))
 
 module _ (s : State) (read : RootRead s) where
   by-call : (c : Call) (x : Item) → offered c ≡ some x → answer s c ≡ 0 → TrustedBy s c x

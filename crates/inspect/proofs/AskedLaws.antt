@@ -18,6 +18,7 @@ use Rattle.rules.specs.Asked.{EntryAsked, noEntry, nth, theEntry, entryIn, entr
 use Rattle.rules.proofs.OptionLaws.{some-is, had, kept-is}
 use Rattle.rules.proofs.ReadingLaws.{parsed-exactly, envelope-of}
 use Rattle.rules.proofs.TableLaws.{fault-refuses}
+use Rattle.answers.specs.Number.{highest}
 use Rattle.answers.proofs.MostLaws.{fault-most, named}
 use Rattle.envelope.specs.declared.Opened.{Opened}
 use Rattle.envelope.specs.Open.{Opens}
@@ -71,7 +72,7 @@ entry-of k l s t e f = ap (λ (x : Bytes). theEntry (some (record { keyid = x; s
 -- ## The answer
 
 module _ (file : Bytes) (place : ℕ) (o : Opened) (w : Opens file o (readEnvelope file)) where
-  pub asked-refused : (o .answer ≡ 0 → ⊥) → (n : ℕ) → n ≡ min (o .answer) 15 → noEntry n ≡ entryAt file place
+  pub asked-refused : (o .answer ≡ 0 → ⊥) → (n : ℕ) → n ≡ min (o .answer) highest → noEntry n ≡ entryAt file place
   unfolding entryAt entryIn
   asked-refused z n e = go (readEnvelope file) w
     where

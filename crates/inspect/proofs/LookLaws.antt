@@ -18,6 +18,7 @@ use Rattle.rules.specs.Reading.{keyidsOf, readEnvelope}
 use Rattle.rules.specs.Asked.{Look, lookOf, look, signedPart}
 use Rattle.rules.proofs.ReadingLaws.{signed-part}
 use Rattle.rules.proofs.TableLaws.{fault-refuses}
+use Rattle.answers.specs.Number.{highest}
 use Rattle.answers.proofs.MostLaws.{fault-most, named}
 use Rattle.records.specs.declared.Entries.{Entries}
 use Rattle.records.specs.View.{firsts, viewEntries}
@@ -42,7 +43,7 @@ abbrev seen : ℕ → ℕ → ℕ → Look
 seen start length entries = record { answer = 0; start = start; length = length; entries = entries }
 
 module _ (file : Bytes) (o : Opened) (w : Opens file o (readEnvelope file)) where
-  pub look-refused : (o .answer ≡ 0 → ⊥) → (n : ℕ) → n ≡ min (o .answer) 15 → noLook n ≡ look file
+  pub look-refused : (o .answer ≡ 0 → ⊥) → (n : ℕ) → n ≡ min (o .answer) highest → noLook n ≡ look file
   unfolding look lookOf noLook
   look-refused z n a = go (readEnvelope file) w
     where

@@ -9,7 +9,7 @@ ghost use mathlib.Core.Path.{_≡_};
 ghost use mathlib.Core.List.{List};
 ghost use Rattle.base.specs.Bytes.{Bytes};
 ghost use Rattle.rules.specs.Records.{File, Image};
-ghost use Rattle.rules.specs.State.{Install, TimestampOffer, RootOffer, FileOffer, Query};
+ghost use Rattle.rules.specs.State.{Install, RootOffer, FileOffer, Query};
 ghost use Rattle.rules.specs.Table.{first};
 ghost use Rattle.rules.specs.Conditions.{badDigest};
 ghost use Rattle.rules.specs.Steps.{installTable, timestampTable, rootTable, snapshotTable, targetsTable, findTable};
@@ -39,7 +39,7 @@ pub fn judge_install(offered: Root, entries: Entries, row: &[u8]) -> u8
 
 // "Timestamp (1 to 7, 9, 11 to 14): leans on root"
 pub fn judge_timestamp(s: State, offered: Timestamp, entries: Entries, row: &[u8]) -> u8
-    ensures { λ r. ⌜ ((o : TimestampOffer) → o .row ≡ now (row .entry) → r ≡ first (timestampTable (view s) o (viewTimestamp offered) (viewEntries entries))) ⌝ }
+    ensures { λ r. ⌜ ((o : FileOffer) → o .row ≡ now (row .entry) → r ≡ first (timestampTable (view s) o (viewTimestamp offered) (viewEntries entries))) ⌝ }
 {
     if keys::bad_row(entries, row) {
         return 5;
@@ -107,9 +107,6 @@ pub fn judge_snapshot(
     if keys::bad_row(entries, row) {
         return 5;
     }
-    if is_bad_digest(digest) {
-        return 5;
-    }
     if s.lacks_root() {
         return 6;
     }
@@ -158,9 +155,6 @@ pub fn judge_targets(
     if keys::bad_row(entries, row) {
         return 5;
     }
-    if is_bad_digest(digest) {
-        return 5;
-    }
     if s.lacks_root() {
         return 6;
     }
@@ -200,13 +194,10 @@ pub fn judge_targets(
     0
 }
 
-// "Find (1 to 8, 15): given the targets file, its digest and a path .. leans on all four"; `listed` says whether the file lists the path
+// "Find (1 to 8, 15): given the targets file .. and a path .. leans on all four"; `listed` says whether the file lists the path
 pub fn judge_find(s: State, digest: &[u8], path: &[u8], listed: bool) -> u8
     ensures { λ r. ⌜ ((q : Query) → Queried q (now (digest .entry)) (now (path .entry)) → (g : File (List Image)) → Lists g (q .path) listed → (es : List Bytes) → r ≡ first (findTable (view s) q g es)) ⌝ }
 {
-    if is_bad_digest(digest) {
-        return 5;
-    }
     if s.lacks_root() {
         return 6;
     }

@@ -1,6 +1,6 @@
 // Probes for the layout test (bindings/layout): each gives two equal values of an exported struct, one behind another, with the given
 // fields. The test gives each field bytes that no other has: where they stand is the field's offset, and from there to where they stand
-// again is the size of the struct. No part of the product's archive.
+// again is the size of the struct. A digest is one field, so its two values have marks of their own. No part of the product's archive.
 ghost use mathlib.Core.Path.{_≡_};
 ghost use lib.Dec.{eqb};
 ghost use lib.ListN.{replicate};
@@ -40,6 +40,12 @@ pub struct Images {
 pub struct PublicKeys {
     pub first: PublicKey,
     pub second: PublicKey,
+}
+
+#[repr(C)]
+pub struct Digests {
+    pub first: Id,
+    pub second: Id,
 }
 
 #[repr(C)]
@@ -132,6 +138,15 @@ pub extern "C" fn layout_public_key(answer: u8, mark: u8) -> PublicKeys
         first: one,
         second: one,
     }
+}
+
+#[no_mangle]
+pub extern "C" fn layout_digest(first_mark: u8, second_mark: u8) -> Digests
+    ensures { λ r. ⌜ (r .first .bytes ≡ replicate 32 «first_mark») × (r .second .bytes ≡ replicate 32 «second_mark») ⌝ }
+{
+    let first = id(first_mark);
+    let second = id(second_mark);
+    Digests { first, second }
 }
 
 #[no_mangle]

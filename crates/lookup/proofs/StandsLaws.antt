@@ -6,8 +6,8 @@ use mathlib.Core.Bool.{Bool, true, false}
 use Prim.Native.Nat.{ℕ, _≤_, _<_, _+_, _-_}
 use native.Mathlib.Omega.{arith}
 use lib.Dec.{leb}
-use lib.ListN.{length, drop, getD, length-append, length-drop}
-use lib.Seq.{drop-drop, drop-at}
+use lib.ListN.{length, take, drop, getD, length-append, length-drop}
+use lib.Seq.{drop-drop, take-at, drop-at}
 use borrow.Author.Tests.{leb-true, leb-false}
 use Rattle.base.specs.Bytes.{Bytes}
 use Rattle.base.proofs.PlaceLaws.{at-cons, at-end}
@@ -54,15 +54,28 @@ module _ (s : Bytes) (p : ℕ) (v : Json) (h : Stands s p v) where
   pub inside : p < length s
   inside = there s p (front .first) (front .others) (front .is) .0
 
+  split : drop p s ≡ put v [] ++ h .rest
+  split = h .text ∙ put-split v (h .rest)
+
+  ends : length s - length (h .rest) ≡ p + length (put v [])
+  ends =
+      let l : length s - p ≡ length (put v []) + length (h .rest) = sym (length-drop p s) ∙ ap length split ∙ length-append (put v []) (h .rest) in
+      let i = inside in
+      omega arith
+
   -- the rest begins where the value ends
   pub rest-at : drop (length s - length (h .rest)) s ≡ h .rest
   rest-at =
       let a = put v [] in
-      let k : drop p s ≡ a ++ h .rest = h .text ∙ put-split v (h .rest) in
-      let l : length s - p ≡ length a + length (h .rest) = sym (length-drop p s) ∙ ap length k ∙ length-append a (h .rest) in
-      let i = inside in
-      let e : length s - length (h .rest) ≡ p + length a = omega arith in
-      ap (λ (n : ℕ). drop n s) e ∙ sym (drop-drop (length a) p s) ∙ ap (λ (t : Bytes). drop (length a) t) k ∙ drop-at a (h .rest) (length a) refl
+      ap (λ (n : ℕ). drop n s) ends ∙ sym (drop-drop (length a) p s) ∙ ap (λ (t : Bytes). drop (length a) t) split ∙ drop-at a (h .rest) (length a) refl
+
+  -- what stands from its place to its end is its text
+  pub text-to : (e : ℕ) → e ≡ length s - length (h .rest) → take (e - p) (drop p s) ≡ put v []
+  text-to e q =
+      let a = put v [] in
+      let n = ends in
+      let m : e - p ≡ length a = omega arith in
+      rw (m, split) (take-at a (h .rest) (length a) refl)
 
   -- the skip over it
   module _ {r : Skip} (w : Ends s p r) where
@@ -93,6 +106,11 @@ module _ (s : Bytes) (p : ℕ) (known : Found) where
   -- the one that is known
   pub told : (e : ℕ) → known ≡ At e → KnownEnd s p known → EndsAt s p (At e)
   told e q k = rw q at k
+
+-- an end that was looked for is known
+pub ended : (s : Bytes) (p : ℕ) (r : Found) → EndsAt s p r → KnownEnd s p r
+ended s p Nothing w = tt
+ended s p (At e) w = w
 
 -- what is known of the value at one place, it is of the value at the same place
 pub known-at : (s : Bytes) (p q : ℕ) (f : Found) → p ≡ q → KnownEnd s q f → KnownEnd s p f

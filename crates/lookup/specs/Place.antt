@@ -42,6 +42,10 @@ pub record FindsMember (s : Bytes) (p : ℕ) (k : Bytes) (r : Found) : Type 0 wh
 abbrev pub Takes : {A : Type 0} → Bytes → ℕ → (Json → Option A) → Option A → Type 0
 Takes s p f o = (v : Json) → Stands s p v → o ≡ f v
 
+-- the same of a test of it
+abbrev pub Tests : Bytes → ℕ → (Json → Bool) → Bool → Type 0
+Tests s p f b = (v : Json) → Stands s p v → b ≡ f v
+
 -- a place that is handed back lies after p and in the text
 abbrev pub PlaceAfter : Bytes → ℕ → Found → Type 0
 PlaceAfter s p Nothing = Unit {0}

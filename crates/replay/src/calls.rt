@@ -11,6 +11,7 @@ pub enum Call {
     Unknown,
     Text,
     Date,
+    Sha256,
     Look,
     Entry,
     Key,
@@ -57,6 +58,9 @@ fn call_named(name: &[u8]) -> Call {
     if base::same(name, b"date") {
         return Call::Date;
     }
+    if base::same(name, b"sha256") {
+        return Call::Sha256;
+    }
     if base::same(name, b"look") {
         return Call::Look;
     }
@@ -85,12 +89,14 @@ fn arguments_of(call: Call, line: &[u8], bytes: &mut [u8]) -> Arguments {
         Call::State => arguments::read(b"", line, bytes),
         Call::Cycle => arguments::read(b"t", line, bytes),
         Call::Entry => arguments::read(b"bn", line, bytes),
-        Call::Timestamp => arguments::read(b"bb", line, bytes),
         Call::Install => arguments::read(b"bbt", line, bytes),
         Call::Image => arguments::read(b"nbnb", line, bytes),
-        Call::Text | Call::Date | Call::Look | Call::Key => arguments::read(b"b", line, bytes),
-        Call::Root | Call::Snapshot | Call::Targets | Call::Find => {
-            arguments::read(b"bbb", line, bytes)
+        Call::Root => arguments::read(b"bbb", line, bytes),
+        Call::Text | Call::Date | Call::Sha256 | Call::Look | Call::Key => {
+            arguments::read(b"b", line, bytes)
+        }
+        Call::Timestamp | Call::Snapshot | Call::Targets | Call::Find => {
+            arguments::read(b"bb", line, bytes)
         }
     }
 }
@@ -136,11 +142,7 @@ fn play_image(a: Arguments, bytes: &[u8]) {
 // ---- Calls that ask the state
 
 fn play_find(state: State, a: Arguments, bytes: &[u8]) {
-    let found = state.find(
-        arguments::part(bytes, a, 0),
-        arguments::part(bytes, a, 1),
-        arguments::part(bytes, a, 2),
-    );
+    let found = state.find(arguments::part(bytes, a, 0), arguments::part(bytes, a, 1));
     lines::image(found);
 }
 
@@ -149,6 +151,7 @@ fn ask(call: Call, state: State, a: Arguments, bytes: &[u8]) {
     match call {
         Call::Text => lines::number(b"text", text_answer(first)),
         Call::Date => play_date(first),
+        Call::Sha256 => lines::digest(tuf::digest(first)),
         Call::Look => lines::looked(tuf::look(first)),
         Call::Entry => play_entry(a, bytes),
         Call::Key => lines::key(state.key(first)),
@@ -189,8 +192,8 @@ fn perform(call: Call, state: State, a: Arguments, bytes: &[u8]) -> State {
         Call::Cycle => told(b"cycle", cycle(state, a)),
         Call::Root => told(b"root", state.root(first, second, third)),
         Call::Timestamp => told(b"timestamp", state.timestamp(first, second)),
-        Call::Snapshot => told(b"snapshot", state.snapshot(first, second, third)),
-        Call::Targets => told(b"targets", state.targets(first, second, third)),
+        Call::Snapshot => told(b"snapshot", state.snapshot(first, second)),
+        Call::Targets => told(b"targets", state.targets(first, second)),
         _ => {
             ask(call, state, a, bytes);
             state

@@ -5,6 +5,7 @@ use date::Time;
 use inspect::EntryRead;
 use inspect::Looked;
 use libc::STDOUT_FILENO;
+use records::Id;
 use state::Version;
 use state::Versions;
 use tuf::Image;
@@ -108,6 +109,14 @@ pub fn date(time: Time) {
     let line: &mut [u8] = &mut space;
     let a = script::append(line, 0, b"date ");
     let b = script::append_count(line, a, time.seconds);
+    put_line(line, b);
+}
+
+pub fn digest(id: Id) {
+    let mut space = [0u8; LINE];
+    let line: &mut [u8] = &mut space;
+    let a = script::append(line, 0, b"sha256");
+    let b = append_bytes(line, a, &id.bytes);
     put_line(line, b);
 }
 

@@ -2,7 +2,7 @@
 use mathlib.Core.Path.{_≡_}
 use Rattle.base.specs.Bytes.{Bytes, bytes}
 use Rattle.rules.specs.Records.{File}
-use Rattle.rules.specs.Forms.{root}
+use Rattle.rules.specs.Forms.{root, rootKeyids}
 use Rattle.rules.specs.Reading.{readAs, readRoot}
 use Rattle.rules.specs.State as state
 use Rattle.rules.specs.State.{kept, keepRoot, rootIn}
@@ -22,6 +22,6 @@ keepFile f =
       targetsRole = f .body .roles .targetsRole;
     }
 
-pub root-by-body : (file : Bytes) → rootIn file ≡ kept keepFile (readAs (bytes "root") rootKept file)
+pub root-by-body : (file : Bytes) → rootIn file ≡ kept keepFile (readAs (bytes "root") rootKept rootKeyids file)
 unfolding rootIn readRoot keepRoot keepFile keepBody rootKept
-root-by-body file = read-then (bytes "root") root keepBody keepFile file
+root-by-body file = read-then (bytes "root") root rootKeyids keepBody keepFile file

@@ -5,3 +5,4 @@ pub mod NamingLaws
 pub mod RoleLaws
 pub mod BodyLaws
 pub mod FileLaws
+pub mod OwnLaws

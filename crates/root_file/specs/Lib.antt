@@ -1,2 +1,3 @@
+pub mod Keyids
 pub mod Body
 pub mod View

@@ -1,21 +1,22 @@
-// A root file, read (01, "Forms" and refusals 1 to 4): the key table and the four roles at a place of a canonical text, and the whole file.
+// A root file, read (01, "Forms" and refusals 1 to 4, and A1's 16): the key table and the four roles at a place of a canonical text, and the whole file.
 ghost use mathlib.Core.Path.{_≡_};
 ghost use mathlib.Core.Option.{some};
 ghost use mathlib.Core.Bool.{false};
 ghost use lib.ListN.{drop};
-ghost use Rattle.base.specs.Bytes.{bytes};
+ghost use Rattle.base.specs.Bytes.{bytes, same};
 ghost use Rattle.json.specs.Read.{raw};
-ghost use Rattle.json.specs.Fields.{keep};
-ghost use Rattle.lookup.specs.Place.{Takes, KnownEnd, FoundEnd};
+ghost use Rattle.json.specs.Fields.{members, keep};
+ghost use Rattle.lookup.specs.Place.{Takes, Tests, PlaceAfter, EndsAt, KnownEnd, FoundEnd};
 ghost use Rattle.lookup.specs.declared.Found.the-variants.{Nothing};
 ghost use Rattle.rules.specs.Limits.{maxKeys, keySize};
 ghost use Rattle.rules.specs.Take.{must, hex};
-ghost use Rattle.rules.specs.Forms.{isIn, different, key as keyForm, keys as keysForm};
+ghost use Rattle.rules.specs.Forms.{isIn, different, key as keyForm, keys as keysForm, keyidOf, ownTable};
 ghost use Rattle.rules.specs.State.{rootIn};
 ghost use Rattle.records.specs.View.{viewId, viewTable};
 ghost use Rattle.forms.specs.Each.{eachMember};
 ghost use Rattle.forms.specs.Member.{TakesMust};
 ghost use Rattle.forms.specs.View.{viewIdAt};
+ghost use Rattle.root_file.specs.Keyids.{TestsTable};
 ghost use Rattle.root_file.specs.Body.{naming, roleKept, rolesKept, rootKept, isTruth};
 ghost use Rattle.root_file.specs.View.{publicsFrom, viewKeyAt, viewKeysAt, viewNamingAt, viewRoleAt, viewRolesAt, viewRootAt, viewRootRead};
 use date::Time;
@@ -222,6 +223,60 @@ fn keys_field(s: &[u8], found: Found) -> KeysAt
         }
         Found::At(x) => {
             return keys_at(s, x);
+        }
+    }
+}
+
+// Whether the member whose name begins at `name` and whose value stands from `value` to `end` has its key's keyid: "the hex digest of the canonical
+// text of its key".
+fn has_own_keyid(s: &[u8], name: usize, value: usize, end: Found) -> bool
+    requires { ⌜ PlaceAfter (now s) value end ⌝ }
+    ensures { λ r. ⌜ (EndsAt (now (s .entry)) value end → Tests (now (s .entry)) value (λ v. same (raw (drop name (now (s .entry)))) (keyidOf v)) r) ⌝ }
+{
+    match end {
+        Found::Nothing => {
+            return false;
+        }
+        Found::At(e) => {
+            let keyid = sha256::hex_digest(&s[value..e]);
+            return lookup::text_is(s, name, &keyid);
+        }
+    }
+}
+
+// Whether every keyid of the key table is its key's, "unknown members included".
+pub fn has_own_keyids(s: &[u8], at: usize) -> bool
+    ensures { λ r. ⌜ Tests (now (s .entry)) at (λ v. ownTable (members v)) r ⌝ }
+{
+    let mut m = lookup::first_member(s, at);
+    loop {
+        match m {
+            Member::At { name, value } => {
+                let end = lookup::value_end(s, value);
+                if !has_own_keyid(s, name, value, end) {
+                    return false;
+                }
+                m = lookup::next_member_by(s, value, end);
+            }
+            Member::NoObject => {
+                return true;
+            }
+            Member::End(_) => {
+                return true;
+            }
+        }
+    }
+}
+
+fn keyids_field(s: &[u8], found: Found) -> bool
+    ensures { λ r. ⌜ TestsTable (now (s .entry)) found r ⌝ }
+{
+    match found {
+        Found::Nothing => {
+            return true;
+        }
+        Found::At(x) => {
+            return has_own_keyids(s, x);
         }
     }
 }
@@ -557,7 +612,7 @@ fn refused(answer: u8) -> RootRead
     }
 }
 
-// 3 before 4: the spec_version is asked for when the body was read.
+// 3 before 16 and 16 before 4: the keyids and the spec_version are asked for when everything else was read.
 pub fn read_root(file: &[u8]) -> RootRead
     ensures { λ r. ⌜ viewRootRead r ≡ some (rootIn (now (file .entry))) ⌝ }
 {
@@ -575,6 +630,9 @@ pub fn read_root(file: &[u8]) -> RootRead
     let header = envelope::header_at(file, start, b"root", lookup::extent_of(roles, end));
     if !header.ok {
         return refused(envelope::BAD_FORM);
+    }
+    if !keyids_field(file, lookup::find_member(file, start, b"keys")) {
+        return refused(envelope::OTHER_KEYID);
     }
     if !header.known {
         return refused(envelope::OTHER_SPEC);

@@ -10,11 +10,11 @@ use Rattle.json.specs.Read.{read, kindOf, chars, digits, loop, body, member}
 use Rattle.json.specs.Fields as fields
 use Rattle.json.specs.Fields.{members, items, lookup, field, size, text, truth, keep, decimal, natural, between, number, placeFrom, placeOf}
 use Rattle.rules.specs.Take.{must, inside, may, single, sole, each, eachNamed, word, unhex, hex, date, nameOf}
-use Rattle.rules.specs.Forms.{isIn, different, entry, entries, envelope, version, knownSpec, fileOf, key, keys, role, root, sha256, listed, timestamp, named, names, snapshot, image, images, targets}
+use Rattle.rules.specs.Forms.{isIn, different, entry, entries, envelope, version, knownSpec, fileOf, key, keys, keyidOf, ownKeyids, ownTable, role, root, rootKeyids, sha256, listed, timestamp, named, names, snapshot, image, images, targets}
 use Rattle.rules.specs.Reading.{whole, parsed, judgedText, readWith, keyidsOf, opened, readEnvelope, known, spoken, inEnvelope, readAs, readRoot, readTimestamp, readSnapshot, readTargets}
 use Rattle.rules.specs.State.{blank, filter, keepRole, keepRoot, keepTimestamp, keepSnapshot, keepTargets, kept, rootIn, timestampIn, snapshotIn, targetsIn}
 use Rattle.rules.specs.Table.{first}
-use Rattle.rules.specs.Conditions.{badRow, badDigest, otherVersion, listedAs, targetsEntry, staleSnapshot, staleTargets, otherLength, otherDigest, signed, count, tooFew, fallen, lost, within, rotated, rotates, rotatesTargets, imageOf, keyOf}
+use Rattle.rules.specs.Conditions.{badRow, otherVersion, listedAs, targetsEntry, staleSnapshot, staleTargets, otherLength, otherDigest, signed, count, tooFew, fallen, lost, within, rotated, rotates, rotatesTargets, imageOf, keyOf}
 use Rattle.rules.specs.Steps.{installTable, cycleTable, rootTable, timestampTable, snapshotTable, targetsTable, findTable, keyTable, faultNumber, judged, installAnswer, answer, refuses, withStart, withRoot, withTimestamp, withSnapshot, withTargets, afterRoot, trusting, whatSays, offered, started, trustingIf, accepted, next, rootAlone, begun, installed}
 use Rattle.rules.specs.Asked.{nothingFound, theImage, inTargets, found, publicOf, inRoot, publicKey, lookOf, look, noEntry, nth, theEntry, entryIn, entryAt}
 
@@ -29,12 +29,12 @@ texts = tt
 
 -- what a file says
 unfoldable pub forms : Unit {0}
-unfolding dates texts digitOf allHex isHex undo put putBytes members items lookup field size fields.count text truth keep decimal natural between number bind must inside may single sole each eachNamed word unhex hex date nameOf isIn different entry entries placeFrom placeOf envelope version knownSpec fileOf key keys role root sha256 listed timestamp named names snapshot image images targets judgedText readWith keyidsOf opened readEnvelope known spoken inEnvelope readAs readRoot readTimestamp readSnapshot readTargets
+unfolding dates texts digitOf allHex isHex undo put putBytes members items lookup field size fields.count text truth keep decimal natural between number bind must inside may single sole each eachNamed word unhex hex date nameOf isIn different entry entries placeFrom placeOf envelope version knownSpec fileOf key keys keyidOf ownKeyids ownTable role root rootKeyids sha256 listed timestamp named names snapshot image images targets judgedText readWith keyidsOf opened readEnvelope known spoken inEnvelope readAs readRoot readTimestamp readSnapshot readTargets
 forms = tt
 
 -- the refusals of a call, on what a file says
 unfoldable pub tables : Unit {0}
-unfolding dates same isIn filter first badRow badDigest otherVersion listedAs targetsEntry staleSnapshot staleTargets otherLength otherDigest signed count tooFew fallen lost within rotated rotates rotatesTargets imageOf keyOf installTable cycleTable rootTable timestampTable snapshotTable targetsTable findTable keyTable withRoot
+unfolding dates same isIn filter first badRow otherVersion listedAs targetsEntry staleSnapshot staleTargets otherLength otherDigest signed count tooFew fallen lost within rotated rotates rotatesTargets imageOf keyOf installTable cycleTable rootTable timestampTable snapshotTable targetsTable findTable keyTable withRoot
 tables = tt
 
 -- a call, and what it gives

@@ -13,7 +13,7 @@ use Rattle.base.specs.Hex.{undo}
 use Rattle.date.specs.Calendar.{expired}
 use Rattle.rules.specs.Limits.{keySize}
 use Rattle.rules.specs.Records.{Key, Image, File, says}
-use Rattle.rules.specs.State.{Root, Timestamp, Snapshot, State, blank, rootIn, timestampIn, snapshotIn, targetsIn, keepTargets, Install, RootOffer, TimestampOffer, FileOffer, Query, newCycle, newRoot, newTimestamp, newSnapshot, newTargets, find, askKey}
+use Rattle.rules.specs.State.{Root, Timestamp, Snapshot, State, blank, rootIn, timestampIn, snapshotIn, targetsIn, keepTargets, Install, RootOffer, FileOffer, Query, newCycle, newRoot, newTimestamp, newSnapshot, newTargets, find, askKey}
 use Rattle.rules.specs.Table.{first, ofHeld, absent}
 use Rattle.rules.specs.Conditions.{staleSnapshot, staleTargets, imageOf, keyOf}
 use Rattle.rules.specs.Steps.{installTable, cycleTable, rootTable, timestampTable, snapshotTable, targetsTable, findTable, keyTable, installAnswer, installed, begun, rootAlone, answer, refuses, next, withStart, withRoot, withTimestamp, withSnapshot, withTargets, aRoot, aTimestamp, aSnapshot, aTargets, offered, started, trusting, afterRoot}
@@ -83,7 +83,7 @@ leans-on-root s held fresh =
     let h = not-absent (s .root) .0 held in
     record { root = h .0; rootHeld = h .1; rootFresh = fresh-exactly _ _ .0 (held-test _ (h .1) fresh) }
 
-module _ (s : State) (o : TimestampOffer) where
+module _ (s : State) (o : FileOffer) where
   pub timestamp-good : RootRead s → answer s (newTimestamp o) ≡ 0 → (t : Timestamp) × TimestampGood s o t
   unfolding answer timestampTable
   timestamp-good read a =
@@ -155,7 +155,6 @@ module _ (s : State) (o : FileOffer) where
           entries = j .entries;
           reads = j .reads;
           row = row-good _ _ .0 (p 5 0);
-          digest = digest-good _ .0 (p 5 1);
           on = on;
           matches = matches-exactly _ _ _ .0 (held-test _ listed (p 8 0), held-test _ listed (p 8 1));
           keys = passes-enough _ _ _ (differ s read root .2) (held-test _ root (p 9 0));
@@ -173,7 +172,6 @@ module _ (s : State) (o : FileOffer) where
       let m = matches-exactly _ _ _ .1 (g .matches) in
       says-judged (snapshotTable s o) (g .reads)
       (row-good _ _ .1 (g .row)
-      & digest-good _ .1 (g .digest)
       & not-absent _ .1 (_, root)
       & not-absent _ .1 (_, listed)
       & rw root (fresh-exactly _ _ .1 (g .on .onRoot .rootFresh))
@@ -229,7 +227,6 @@ module _ (s : State) (o : FileOffer) where
           entries = j .entries;
           reads = j .reads;
           row = row-good _ _ .0 (p 5 0);
-          digest = digest-good _ .0 (p 5 1);
           on = on;
           matches = matches-exactly _ _ _ .0 (held-test _ listed (p 8 0), held-test _ listed (p 8 1));
           keys = passes-enough _ _ _ (differ s read root .3) (held-test _ root (p 9 0));
@@ -247,7 +244,6 @@ module _ (s : State) (o : FileOffer) where
       let m = matches-exactly _ _ _ .1 (g .matches) in
       says-judged (targetsTable s o) (g .reads)
       (row-good _ _ .1 (g .row)
-      & digest-good _ .1 (g .digest)
       & not-absent _ .1 (_, root)
       & not-absent _ .1 (_, timestamp)
       & not-absent _ .1 (_, listed)
@@ -262,14 +258,14 @@ module _ (s : State) (o : FileOffer) where
       & fresh-exactly _ _ .1 (g .fresh)
       & tt)
 
-  pub targets-offered : (f : File (List Image)) → TargetsGood s o f → offered (newTargets o) ≡ some (aTargets (keepTargets f (o .digest)))
+  pub targets-offered : (f : File (List Image)) → TargetsGood s o f → offered (newTargets o) ≡ some (aTargets (keepTargets (o .file) f))
   unfolding offered
-  targets-offered f g = says-what (λ x. aTargets (keepTargets x (o .digest))) (g .reads)
+  targets-offered f g = says-what (λ x. aTargets (keepTargets (o .file) x)) (g .reads)
 
-  pub targets-after : (f : File (List Image)) → TargetsGood s o f → next s (newTargets o) ≡ withTargets s (keepTargets f (o .digest))
+  pub targets-after : (f : File (List Image)) → TargetsGood s o f → next s (newTargets o) ≡ withTargets s (keepTargets (o .file) f)
   unfolding trusting started
   targets-after f g =
-      next-trusting s (newTargets o) (aTargets (keepTargets f (o .digest))) (targets-offered f g) (good-targets f g)
+      next-trusting s (newTargets o) (aTargets (keepTargets (o .file) f)) (targets-offered f g) (good-targets f g)
 
 -- ## Find
 
@@ -307,7 +303,6 @@ module _ (s : State) (q : Query) where
           file = j .file;
           entries = j .entries;
           reads = j .reads;
-          digest = digest-good _ .0 (p 5 0);
           on = on;
           kept = not-exactly _ (same-exactly _ _) .0 (held-test _ (on .targetsHeld) (p 8 0));
           notEmpty = leb-false (length (q .path)) 0 (p 15 0);
@@ -323,8 +318,7 @@ module _ (s : State) (q : Query) where
       let onTimestamp = onSnapshot .onTimestamp in
       let onRoot = onTimestamp .onRoot in
       says-judged (findTable s q) (g .reads)
-      (digest-good _ .1 (g .digest)
-      & not-absent _ .1 (_, onRoot .rootHeld)
+      (not-absent _ .1 (_, onRoot .rootHeld)
       & not-absent _ .1 (_, onTimestamp .timestampHeld)
       & not-absent _ .1 (_, onSnapshot .snapshotHeld)
       & not-absent _ .1 (_, g .on .targetsHeld)

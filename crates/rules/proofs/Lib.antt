@@ -4,12 +4,12 @@ pub mod WordLaws
 pub mod ReadingLaws
 pub mod OrderLaws
 pub mod RootLaws
+pub mod KeyidLaws
 pub mod SnapshotLaws
 pub mod NumberLaws
 pub mod Computing
 pub mod Cases
 pub mod StepCases
-pub mod Texts
 pub mod TableLaws
 pub mod NextLaws
 pub mod ExactlyLaws

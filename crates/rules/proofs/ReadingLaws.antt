@@ -22,7 +22,7 @@ use Rattle.json.proofs.Puts.{put-str, put-obj, members-cons, more-members-cons}
 use Rattle.json.proofs.Slices.{put-split}
 use Rattle.rules.specs.Limits.{maxFile}
 use Rattle.base.proofs.TestLaws.{never}
-use Rattle.rules.specs.Records.{File, Fault, Read, refused, says, tooLong, otherSpec}
+use Rattle.rules.specs.Records.{File, Fault, Read, refused, says, tooLong, otherKeyid, otherSpec}
 use Rattle.rules.specs.Forms.{Envelope, envelope, entries, knownSpec, fileOf}
 use Rattle.rules.specs.State.{kept}
 use Rattle.rules.specs.Table.{Refusal, absent}
@@ -109,37 +109,41 @@ envelope-of file e ks h =
     step v p (some d) q h = let d-is : d ≡ e = cc in record { value = v; text = p; form = rw d-is at q }
 
 -- a role's file that was read
-pub record RoleFile {A : Type 0} (type : Bytes) (body : Json → Option A) (file : Bytes) (f : File A) (es : List Bytes) : Type 0 where
+pub record RoleFile {A : Type 0} (type : Bytes) (body : Json → Option A) (keyids : Json → Bool) (file : Bytes) (f : File A) (es : List Bytes) : Type 0 where
   pub value : Json
   pub envelope-is : Envelope
   pub text : parsed file ≡ some value
   pub form : envelope value ≡ some envelope-is
   pub role : fileOf type body (envelope-is .signed) ≡ some f
+  pub own : keyids (envelope-is .signed) ≡ true
   pub spec : knownSpec (f .specVersion) ≡ true
-  pub keyids : keyidsOf (envelope-is .entries) ≡ es
+  pub signers : keyidsOf (envelope-is .entries) ≡ es
 
-pub role-file : {A : Type 0} (type : Bytes) (body : Json → Option A) (file : Bytes) (f : File A) (es : List Bytes) → readAs type body file ≡ says f es
-    → RoleFile type body file f es
+pub role-file : {A : Type 0} (type : Bytes) (body : Json → Option A) (keyids : Json → Bool) (file : Bytes) (f : File A) (es : List Bytes)
+    → readAs type body keyids file ≡ says f es → RoleFile type body keyids file f es
 unfolding readAs inEnvelope spoken known
-role-file {A} type body file f es h =
-    let w = value-of (λ v. inEnvelope (fileOf type body) (envelope v)) file f es h in
+role-file {A} type body keyids file f es h =
+    let w = value-of (λ v. inEnvelope (fileOf type body) keyids (envelope v)) file f es h in
     opens (w .value) (w .text) (envelope (w .value)) refl (w .form)
   where
     knows : (v : Json) (e : Envelope) (g : File A) → parsed file ≡ some v → envelope v ≡ some e → fileOf type body (e .signed) ≡ some g
-        → (b : Bool) → knownSpec (g .specVersion) ≡ b → cond b (says g (keyidsOf (e .entries))) (refused otherSpec) ≡ says f es
-        → RoleFile type body file f es
-    knows v e g p q r true k h =
+        → (own : Bool) → keyids (e .signed) ≡ own → (b : Bool) → knownSpec (g .specVersion) ≡ b
+        → cond own (cond b (says g (keyidsOf (e .entries))) (refused otherSpec)) (refused otherKeyid) ≡ says f es
+        → RoleFile type body keyids file f es
+    knows v e g p q r true o true k h =
         let g-is : g ≡ f = cc in
-        record { value = v; envelope-is = e; text = p; form = q; role = rw g-is at r; spec = rw g-is at k; keyids = cc }
-    knows v e g p q r false k h = refused-not-says h
+        record { value = v; envelope-is = e; text = p; form = q; role = rw g-is at r; own = o; spec = rw g-is at k; signers = cc }
+    knows v e g p q r true o false k h = refused-not-says h
+    knows v e g p q r false o b k h = refused-not-says h
 
     speaks : (v : Json) (e : Envelope) → parsed file ≡ some v → envelope v ≡ some e
-        → (o : Option (File A)) → fileOf type body (e .signed) ≡ o → spoken e o ≡ says f es → RoleFile type body file f es
+        → (o : Option (File A)) → fileOf type body (e .signed) ≡ o → spoken e (keyids (e .signed)) o ≡ says f es
+        → RoleFile type body keyids file f es
     speaks v e p q none r h = refused-not-says h
-    speaks v e p q (some g) r h = knows v e g p q r (knownSpec (g .specVersion)) refl h
+    speaks v e p q (some g) r h = knows v e g p q r (keyids (e .signed)) refl (knownSpec (g .specVersion)) refl h
 
-    opens : (v : Json) → parsed file ≡ some v → (o : Option Envelope) → envelope v ≡ o → inEnvelope (fileOf type body) o ≡ says f es
-        → RoleFile type body file f es
+    opens : (v : Json) → parsed file ≡ some v → (o : Option Envelope) → envelope v ≡ o → inEnvelope (fileOf type body) keyids o ≡ says f es
+        → RoleFile type body keyids file f es
     opens v p none q h = refused-not-says h
     opens v p (some e) q h = speaks v e p q (fileOf type body (e .signed)) refl h
 

@@ -18,7 +18,7 @@ use Rattle.rules.specs.Limits.{keySize, maxKeys}
 use Rattle.rules.specs.Take.{must, unhex, eachNamed}
 use Rattle.rules.specs.Records as records
 use Rattle.rules.specs.Records.{Key, Role, File, says}
-use Rattle.rules.specs.Forms.{Envelope, envelope, isIn, different, allOf, key, keys, role, root}
+use Rattle.rules.specs.Forms.{Envelope, envelope, isIn, different, allOf, key, keys, role, root, rootKeyids}
 use Rattle.rules.specs.Reading.{readRoot}
 use Rattle.rules.specs.State.{Root, filter, keepRole, keepRoot, rootIn}
 use Rattle.rules.specs.Words.{Different, SameKeys}
@@ -29,7 +29,7 @@ use Rattle.rules.proofs.ReadingLaws.{parsed-exactly, role-file, body-is
 
 -- ## Members of a valid value are valid
 
-abbrev ValidSome : Json → Type 0
+abbrev pub ValidSome : Json → Type 0
 ValidSome v = (d : ℕ) × Valid v d
 
 lookup-more : (k p : Bytes) (ms : Members) (v : Json) (d : ℕ) → ValidMore p ms d → lookup k ms ≡ some v → Valid v d
@@ -50,7 +50,7 @@ lookup-valid k (mcons n w ms) v d h e = step (same n k) e
     step true e = subst (λ (x : Json). Valid x d) (some-is e) (h .1)
     step false e = lookup-more k n ms v d (h .2) e
 
-members-valid : (v : Json) (ms : Members) → ValidSome v → members v ≡ some ms → (d : ℕ) × ValidMembers ms d
+pub members-valid : (v : Json) (ms : Members) → ValidSome v → members v ≡ some ms → (d : ℕ) × ValidMembers ms d
 unfolding Valid members
 members-valid jnull ms h e = none-not-some e
 members-valid jtrue ms h e = none-not-some e
@@ -61,7 +61,7 @@ members-valid (arr xs) ms h e = none-not-some e
 members-valid (obj ns) ms (zero, h) e = absurd h
 members-valid (obj ns) ms (suc d, h) e = (d, subst (λ (x : Members). ValidMembers x d) (some-is e) h)
 
-field-valid : (k : Bytes) (v w : Json) → ValidSome v → field k v ≡ some w → ValidSome w
+pub field-valid : (k : Bytes) (v w : Json) → ValidSome v → field k v ≡ some w → ValidSome w
 unfolding field
 field-valid k v w h e =
     let ms = had _ _ e in
@@ -73,7 +73,7 @@ field-valid k v w h e =
 abbrev keyidsIn : List Key → List Bytes
 keyidsIn ks = map (λ (k : Key). k .keyid) ks
 
-key-hex : (n : Bytes) (v : Json) (k : Key) → key n v ≡ some k → (isHex keySize n ≡ true) × (undo n ≡ k .keyid)
+pub key-hex : (n : Bytes) (v : Json) (k : Key) → key n v ≡ some k → (isHex keySize n ≡ true) × (undo n ≡ k .keyid)
 unfolding key unhex
 key-hex n v k e =
     let id = had _ _ e in
@@ -226,7 +226,7 @@ root-says v r h e =
       ofTargets = named-role _ _ (roles .0) (ofTargets .0) (ofTargets .1);
     })
 
-signed-valid : (v : Json) (e : Envelope) → ValidSome v → envelope v ≡ some e → ValidSome (e .signed)
+pub signed-valid : (v : Json) (e : Envelope) → ValidSome v → envelope v ≡ some e → ValidSome (e .signed)
 unfolding envelope
 signed-valid v e h q =
     let es = had _ _ q in
@@ -241,7 +241,7 @@ signed-valid v e h q =
 pub root-kept : (file : Bytes) (f : File records.Root) (es : List Bytes) → readRoot file ≡ says f es → RootKept (f .body) (keepRoot f)
 unfolding readRoot keepRoot
 root-kept file f es h =
-    let w = role-file (bytes "root") root file f es h in
+    let w = role-file (bytes "root") root rootKeyids file f es h in
     let valid : ValidSome (w .value) = (maxDepth, parsed-exactly file (w .value) .0 (w .text) .0) in
     let s =
     root-says (w .envelope-is .signed) (f .body) (signed-valid (w .value) (w .envelope-is) valid (w .form))

@@ -14,7 +14,7 @@ use Rattle.rules.specs.Limits.{maxName, maxVersion}
 use Rattle.rules.specs.Take.{must, eachNamed, nameOf}
 use Rattle.rules.specs.Records.{Listed, Named, says}
 use Rattle.rules.specs.Forms.{version, listed, named, names, snapshot}
-use Rattle.rules.specs.Reading.{readSnapshot}
+use Rattle.rules.specs.Reading.{noTable, readSnapshot}
 use Rattle.rules.specs.State.{Snapshot, keepSnapshot, snapshotIn}
 use Rattle.rules.specs.Conditions.{listedAs}
 use Rattle.rules.proofs.OptionLaws.{none-not-some, some-is, had, kept-is, number-within}
@@ -77,6 +77,6 @@ pub targets-listed : (file : Bytes) (n : Snapshot) (es : List Bytes) → snapsho
 unfolding snapshotIn keepSnapshot readSnapshot
 targets-listed file n es h =
     let f = kept-says keepSnapshot (readSnapshot file) n es h in
-    let w = role-file (bytes "snapshot") snapshot file (f .0) es (f .1) in
+    let w = role-file (bytes "snapshot") snapshot noTable file (f .0) es (f .1) in
     subst (λ (x : Snapshot). Lists (bytes "targets.json") (x .names)) (f .2)
     (snapshot-lists (w .envelope-is .signed) (f .0 .body) (body-is (bytes "snapshot") snapshot (w .envelope-is .signed) (f .0) (w .role)))

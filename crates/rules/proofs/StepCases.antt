@@ -9,11 +9,14 @@ use lib.IntN.{ℤ, pos}
 use lib.ListN.{replicate}
 use Rattle.base.specs.Bytes.{Bytes, bytes}
 use Rattle.json.specs.Json.{Json, jnull, mnil, mcons}
-use Rattle.rules.specs.Take.{single}
+use Rattle.rules.specs.Limits.{maxPath}
+use Rattle.rules.specs.Take.{single, nameOf}
 use Rattle.rules.specs.Records.{Role, Listed}
-use Rattle.rules.specs.State.{Root, Timestamp, Snapshot, State}
+use Rattle.rules.specs.Forms.{knownSpec}
+use Rattle.rules.specs.State.{Root, Timestamp, Snapshot, State, Row}
 use Rattle.rules.specs.Table.{first, absent}
-use Rattle.rules.specs.Steps.{rootTable, timestampTable, snapshotTable, targetsTable, findTable, withRoot}
+use Rattle.rules.specs.Conditions.{badDigest}
+use Rattle.rules.specs.Steps.{installTable, rootTable, timestampTable, snapshotTable, targetsTable, findTable, withRoot}
 use Rattle.rules.specs.Asked.{imageTable, imageAnswer}
 use Rattle.rules.proofs.Cases.{Case, _gives_, Right, a, b, both}
 use Rattle.rules.proofs.Computing.{tables, forms}
@@ -41,11 +44,9 @@ rootAt = rootUntil (pos 1000)
 abbrev pub root4 : Root
 root4 = rootAt 4 (only b) (only b) (only b)
 
-abbrev pub digest : ℕ → Bytes
-digest n = replicate 32 n
-
+-- Nothing lists a digest here; the cases of digests are in the crate cases.
 abbrev pub listed : ℕ → Listed
-listed version = record { version = version; length = some 30; digest = some (digest 5) }
+listed version = record { version = version; length = some 30; digest = none }
 
 abbrev pub timestampAt : ℕ → ℤ → ℕ → Timestamp
 timestampAt version expires snapshot = record { version = version; expires = expires; snapshot = listed snapshot }
@@ -73,7 +74,7 @@ holdingAll r t n g snapshot targets =
       root = some (rootUntil r 4 (only b) (only b) (only b));
       timestamp = some (timestampAt 2 t snapshot);
       snapshot = some (snapshotUntil n 3 targets);
-      targets = some (record { version = 7; expires = g; digest = digest 7 });
+      targets = some (record { version = 7; expires = g; digest = [] });
       start = pos 999;
     }
 
@@ -90,32 +91,40 @@ toRoot s heldVerdict ownVerdict version =
 abbrev pub toTimestamp : State → ℕ → Timestamp → ℕ
 toTimestamp s verdict t = first (timestampTable s (record { file = []; row = verdict ∷ [] }) t (b ∷ []))
 
--- a snapshot of so many bytes with that digest
-abbrev pub toSnapshot : State → ℕ → ℕ → ℕ → Snapshot → ℕ
-toSnapshot s verdict long digests n =
-    first (snapshotTable s (record { file = replicate long 0; row = verdict ∷ []; digest = digest digests }) n (b ∷ []))
+-- a snapshot of so many bytes
+abbrev pub toSnapshot : State → ℕ → ℕ → Snapshot → ℕ
+toSnapshot s verdict long n = first (snapshotTable s (record { file = replicate long 0; row = verdict ∷ [] }) n (b ∷ []))
 
 -- targets of that version, with no images
-abbrev pub toTargets : State → ℕ → ℕ → ℕ → ℕ → ℕ
-toTargets s verdict long digests version =
-    first (targetsTable s (record { file = replicate long 0; row = verdict ∷ []; digest = digest digests })
+abbrev pub toTargets : State → ℕ → ℕ → ℕ → ℕ
+toTargets s verdict long version =
+    first (targetsTable s (record { file = replicate long 0; row = verdict ∷ [] })
     (record { specVersion = bytes "1"; version = version; expires = pos 1000; body = [] }) (b ∷ []))
 
 -- a path asked for, of targets that list these paths
-abbrev pub toFind : State → ℕ → Bytes → List Bytes → ℕ
-toFind s digests path paths =
-    first (findTable s (record { file = []; digest = digest digests; path = path })
+abbrev pub toFind : State → Bytes → Bytes → List Bytes → ℕ
+toFind s file path paths =
+    first (findTable s (record { file = file; path = path })
     (record {
       specVersion = bytes "1";
       version = 7;
       expires = pos 1000;
-      body = map (λ p. record { path = p; length = 30; digest = digest 5 }) paths;
+      body = map (λ p. record { path = p; length = 30; digest = replicate 32 5 }) paths;
     }) [])
+
+abbrev pub toInstall : Row → ℕ
+toInstall row = first (installTable (record { file = []; row = row; start = pos 0 }) root4 (a ∷ []))
 
 abbrev pub answers : List (Case ℕ)
 answers =
+    -- "a verdict row of another length than the entries, a verdict not 0 or 1"
+    toInstall (1 ∷ []) gives 0
+    ∷ toInstall (0 ∷ []) gives 10
+    ∷ toInstall [] gives 5
+    ∷ toInstall (1 ∷ 1 ∷ []) gives 5
+    ∷ toInstall (2 ∷ []) gives 5
     -- "Held root 4: version 5 goes on; 4 and 6 are 11", also where both have expired
-    toRoot (holding (pos 2000)) 1 1 5 gives 0
+    ∷ toRoot (holding (pos 2000)) 1 1 5 gives 0
     ∷ toRoot (holding (pos 2000)) 1 1 4 gives 11
     ∷ toRoot (holding (pos 2000)) 1 1 6 gives 11
     -- one row of verdicts is not enough
@@ -135,28 +144,17 @@ answers =
     ∷ toTimestamp (full 7) 1 (timestampAt 2 (pos 1000) 3) gives 12
     ∷ toTimestamp (full 7) 1 (timestampAt 3 (pos 1000) 2) gives 13
     ∷ toTimestamp (full 7) 1 (timestampAt 3 (pos 1000) 3) gives 0
-    -- a snapshot as listed; of another length, digest, version; not signed; with a lower version listed
-    ∷ toSnapshot (full 7) 1 30 5 (snapshotAt 3 7) gives 0
-    ∷ toSnapshot (full 7) 1 31 5 (snapshotAt 3 7) gives 8
-    ∷ toSnapshot (full 7) 1 30 6 (snapshotAt 3 7) gives 8
-    ∷ toSnapshot (full 7) 0 30 5 (snapshotAt 3 7) gives 9
-    ∷ toSnapshot (full 7) 1 30 5 (snapshotAt 4 7) gives 11
-    ∷ toSnapshot (full 7) 1 30 5 (snapshotAt 3 6) gives 13
-    -- targets as listed; of another length, digest, version; not signed
-    ∷ toTargets (full 8) 1 30 5 8 gives 0
-    ∷ toTargets (full 8) 1 31 5 8 gives 8
-    ∷ toTargets (full 8) 1 30 6 8 gives 8
-    ∷ toTargets (full 8) 0 30 5 8 gives 9
-    ∷ toTargets (full 8) 1 30 5 9 gives 11
-    -- a listed path; with another digest than the kept one
-    ∷ toFind (full 7) 7 (bytes "a") (bytes "a" ∷ []) gives 0
-    ∷ toFind (full 7) 6 (bytes "a") (bytes "a" ∷ []) gives 8
-    -- "Empty targets list: a find to which 1 to 8 do not apply is 15"
-    ∷ toFind (full 7) 7 (bytes "a") [] gives 15
-    -- "A path of length 0 or above 128 is 15"
-    ∷ toFind (full 7) 7 [] ([] ∷ []) gives 15
-    ∷ toFind (full 7) 7 (replicate 128 97) (replicate 128 97 ∷ []) gives 0
-    ∷ toFind (full 7) 7 (replicate 129 97) (replicate 129 97 ∷ []) gives 15
+    -- a snapshot as listed; of another length, version; not signed; with a lower version listed
+    ∷ toSnapshot (full 7) 1 30 (snapshotAt 3 7) gives 0
+    ∷ toSnapshot (full 7) 1 31 (snapshotAt 3 7) gives 8
+    ∷ toSnapshot (full 7) 0 30 (snapshotAt 3 7) gives 9
+    ∷ toSnapshot (full 7) 1 30 (snapshotAt 4 7) gives 11
+    ∷ toSnapshot (full 7) 1 30 (snapshotAt 3 6) gives 13
+    -- targets as listed; of another length, version; not signed
+    ∷ toTargets (full 8) 1 30 8 gives 0
+    ∷ toTargets (full 8) 1 31 8 gives 8
+    ∷ toTargets (full 8) 0 30 8 gives 9
+    ∷ toTargets (full 8) 1 30 9 gives 11
     ∷ []
 
 pub answers-right : Right answers
@@ -194,51 +192,58 @@ abbrev pub goodTimestamp : State → ℕ
 goodTimestamp s = toTimestamp s 1 (timestampAt 3 (pos 1000) 4)
 
 abbrev pub goodSnapshot : State → ℕ
-goodSnapshot s = toSnapshot s 1 30 5 (snapshotAt 3 8)
+goodSnapshot s = toSnapshot s 1 30 (snapshotAt 3 8)
 
 abbrev pub goodTargets : State → ℕ
-goodTargets s = toTargets s 1 30 5 7
+goodTargets s = toTargets s 1 30 7
 
 abbrev pub goodFind : State → ℕ
-goodFind s = toFind s 7 (bytes "a") (bytes "a" ∷ [])
+goodFind s = toFind s [] (bytes "a") (bytes "a" ∷ [])
 
-abbrev pub leans : List (Case (List ℕ))
-leans =
-    -- "Expiry does not matter here"; "leans on root"; "on root and timestamp"; "root, timestamp, snapshot"; "on all four"
-    expired1 goodRoot gives (0 ∷ 0 ∷ 0 ∷ 0 ∷ [])
-    ∷ expired1 goodTimestamp gives (7 ∷ 0 ∷ 0 ∷ 0 ∷ [])
-    ∷ expired1 goodSnapshot gives (7 ∷ 7 ∷ 0 ∷ 0 ∷ [])
-    ∷ expired1 goodTargets gives (7 ∷ 7 ∷ 7 ∷ 0 ∷ [])
-    ∷ expired1 goodFind gives (7 ∷ 7 ∷ 7 ∷ 7 ∷ [])
-    -- "needs a timestamp"; "needs a current snapshot"; "Needs current targets .. and a current snapshot". The last but one of a snapshot
-    -- and the last of targets are 11: another version is listed
-    ∷ missing1 goodRoot gives (6 ∷ 0 ∷ 0 ∷ 0 ∷ 0 ∷ 0 ∷ [])
-    ∷ missing1 goodTimestamp gives (6 ∷ 0 ∷ 0 ∷ 0 ∷ 0 ∷ 0 ∷ [])
-    ∷ missing1 goodSnapshot gives (6 ∷ 6 ∷ 0 ∷ 0 ∷ 11 ∷ 0 ∷ [])
-    ∷ missing1 goodTargets gives (6 ∷ 6 ∷ 6 ∷ 0 ∷ 6 ∷ 11 ∷ [])
-    ∷ missing1 goodFind gives (6 ∷ 6 ∷ 6 ∷ 6 ∷ 6 ∷ 6 ∷ [])
-    ∷ []
+abbrev pub onEach : (State → ℕ) → List ℕ → List ℕ → List (Case (List ℕ))
+onEach f expired missing = expired1 f gives expired ∷ missing1 f gives missing ∷ []
 
-pub leans-right : Right leans
+-- "Expiry does not matter here"
+pub root-leans : Right (onEach goodRoot (0 ∷ 0 ∷ 0 ∷ 0 ∷ []) (6 ∷ 0 ∷ 0 ∷ 0 ∷ 0 ∷ 0 ∷ []))
 unfolding tables
-leans-right = refl
+root-leans = refl
+
+-- "leans on root"
+pub timestamp-leans : Right (onEach goodTimestamp (7 ∷ 0 ∷ 0 ∷ 0 ∷ []) (6 ∷ 0 ∷ 0 ∷ 0 ∷ 0 ∷ 0 ∷ []))
+unfolding tables
+timestamp-leans = refl
+
+-- "needs a timestamp, leans on root and timestamp"; where another version is listed it is 11
+pub snapshot-leans : Right (onEach goodSnapshot (7 ∷ 7 ∷ 0 ∷ 0 ∷ []) (6 ∷ 6 ∷ 0 ∷ 0 ∷ 11 ∷ 0 ∷ []))
+unfolding tables
+snapshot-leans = refl
+
+-- "needs a current snapshot"; "leans on root, timestamp, snapshot"; where another version is listed it is 11
+pub targets-leans : Right (onEach goodTargets (7 ∷ 7 ∷ 7 ∷ 0 ∷ []) (6 ∷ 6 ∷ 6 ∷ 0 ∷ 6 ∷ 11 ∷ []))
+unfolding tables
+targets-leans = refl
+
+-- "Needs current targets .. and a current snapshot; leans on all four"
+pub find-leans : Right (onEach goodFind (7 ∷ 7 ∷ 7 ∷ 7 ∷ []) (6 ∷ 6 ∷ 6 ∷ 6 ∷ 6 ∷ 6 ∷ []))
+unfolding tables
+find-leans = refl
 
 -- ## Image: "the found length and digest against the fetched ones"
 
 abbrev pub toImage : ℕ → ℕ → Bytes → ℕ
 toImage listedLength fetchedLength fetched =
-    imageAnswer (record { length = listedLength; digest = digest 5 }) (record { length = fetchedLength; digest = fetched })
+    imageAnswer (record { length = listedLength; digest = replicate 32 5 }) (record { length = fetchedLength; digest = fetched })
 
 abbrev pub fetches : List (Case ℕ)
 fetches =
-    toImage 30 30 (digest 5) gives 0
-    ∷ toImage 30 31 (digest 5) gives 8
-    ∷ toImage 30 30 (digest 6) gives 8
+    toImage 30 30 (replicate 32 5) gives 0
+    ∷ toImage 30 31 (replicate 32 5) gives 8
+    ∷ toImage 30 30 (replicate 32 6) gives 8
     ∷ toImage 30 31 (replicate 31 5) gives 5
     ∷ []
 
 pub fetches-right : Right fetches
-unfolding tables imageTable imageAnswer
+unfolding tables badDigest imageTable imageAnswer
 fetches-right = refl
 
 -- ## What an accepted root drops: whether timestamp, snapshot, targets
@@ -269,6 +274,33 @@ rotations =
 pub rotations-right : Right rotations
 unfolding tables
 rotations-right = refl
+
+-- ## A path: "names of 1 to 128 bytes", and find's 15 by the same limits
+
+abbrev pub paths : List (Case (Option Bytes))
+paths =
+    nameOf maxPath [] gives none
+    ∷ nameOf maxPath (replicate 128 97) gives some (replicate 128 97)
+    ∷ nameOf maxPath (replicate 129 97) gives none
+    ∷ []
+
+pub paths-right : Right paths
+unfolding forms
+paths-right = refl
+
+-- ## spec_version: "exactly `1` or beginning with `1.`"
+
+abbrev pub specs : List (Case Bool)
+specs =
+    knownSpec (bytes "1") gives true
+    ∷ knownSpec (bytes "1.0.26") gives true
+    ∷ knownSpec (bytes "10") gives false
+    ∷ knownSpec (bytes "2.0") gives false
+    ∷ []
+
+pub specs-right : Right specs
+unfolding forms
+specs-right = refl
 
 -- ## A sole name, compared whole and with nothing behind it
 

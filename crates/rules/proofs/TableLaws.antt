@@ -10,7 +10,7 @@ use lib.Dec.{leb, eqb}
 use borrow.Author.Tests.{leb-true}
 use Rattle.base.proofs.TestLaws.{never, both}
 use Rattle.base.specs.Bytes.{Bytes}
-use Rattle.rules.specs.Records.{Fault, tooLong, notText, badForm, otherSpec, Read, refused, says}
+use Rattle.rules.specs.Records.{Fault, tooLong, notText, badForm, otherKeyid, otherSpec, Read, refused, says}
 use Rattle.rules.specs.Table.{Refusal, _when_, first, ofHeld}
 use Rattle.rules.specs.Steps.{faultNumber, judged}
 
@@ -82,6 +82,7 @@ unfolding faultNumber
 fault-refuses tooLong e = omega arith
 fault-refuses notText e = omega arith
 fault-refuses badForm e = omega arith
+fault-refuses otherKeyid e = omega arith
 fault-refuses otherSpec e = omega arith
 
 -- a file that was judged 0 was read, and no condition of the table holds of what it says

@@ -10,9 +10,10 @@ use lib.IntN.{ℤ}
 use lib.ListN.{length}
 use Rattle.base.specs.Bytes.{Bytes}
 use Rattle.base.specs.Hex.{isHex, undo}
+use Rattle.sha256.specs.Message.{digestOf}
 use Rattle.rules.specs.Limits.{maxPath, keySize}
 use Rattle.rules.specs.Records.{Key, Image, File, says}
-use Rattle.rules.specs.State.{Root, Timestamp, Snapshot, Targets, State, blank, rootIn, timestampIn, snapshotIn, targetsIn, keepTargets, Install, RootOffer, TimestampOffer, FileOffer, Query, Call, newCycle, newRoot, newTimestamp, newSnapshot, newTargets, find, askKey, askState}
+use Rattle.rules.specs.State.{Root, Timestamp, Snapshot, Targets, State, blank, rootIn, timestampIn, snapshotIn, targetsIn, keepTargets, Install, RootOffer, FileOffer, Query, Call, newCycle, newRoot, newTimestamp, newSnapshot, newTargets, find, askKey, askState}
 use Rattle.rules.specs.Conditions.{targetsEntry, imageOf, keyOf}
 use Rattle.rules.specs.Steps.{installAnswer, installed, rootAlone, answer, next, withStart, withRoot, withTimestamp, withSnapshot, withTargets}
 use Rattle.rules.specs.Asked.{Found, nothingFound, found, zeros, publicKey, imageAnswer}
@@ -67,7 +68,7 @@ pub record RootGood (s : State) (o : RootOffer) (r : Root) : Type 0 where
   pub ownKeys : Enough (r .rootRole) entries (o .ownRow)
   pub version : r .version ≡ held .version + 1
 
-pub record TimestampGood (s : State) (o : TimestampOffer) (t : Timestamp) : Type 0 where
+pub record TimestampGood (s : State) (o : FileOffer) (t : Timestamp) : Type 0 where
   pub entries : List Bytes
   pub reads : timestampIn (o .file) ≡ says t entries
   pub row : GoodRow entries (o .row)
@@ -81,9 +82,8 @@ pub record SnapshotGood (s : State) (o : FileOffer) (n : Snapshot) : Type 0 wher
   pub entries : List Bytes
   pub reads : snapshotIn (o .file) ≡ says n entries
   pub row : GoodRow entries (o .row)
-  pub digest : GoodDigest (o .digest)
   pub on : LeansOnTimestamp s
-  pub matches : Matches (on .timestamp .snapshot) (length (o .file)) (o .digest)
+  pub matches : Matches (on .timestamp .snapshot) (length (o .file)) (digestOf (o .file))
   pub keys : Enough (on .onRoot .root .snapshotRole) entries (o .row)
   pub version : n .version ≡ on .timestamp .snapshot .version
   pub keeps : (h : Snapshot) → s .snapshot ≡ some h → Keeps (h .names) (n .names)
@@ -93,9 +93,8 @@ pub record TargetsGood (s : State) (o : FileOffer) (g : File (List Image)) : Typ
   pub entries : List Bytes
   pub reads : targetsIn (o .file) ≡ says g entries
   pub row : GoodRow entries (o .row)
-  pub digest : GoodDigest (o .digest)
   pub on : LeansOnSnapshot s
-  pub matches : Matches (targetsEntry (on .snapshot)) (length (o .file)) (o .digest)
+  pub matches : Matches (targetsEntry (on .snapshot)) (length (o .file)) (digestOf (o .file))
   pub keys : Enough (on .onTimestamp .onRoot .root .targetsRole) entries (o .row)
   pub version : g .version ≡ targetsEntry (on .snapshot) .version
   pub fresh : ¬ Expired (g .expires) (s .start)
@@ -104,9 +103,8 @@ pub record FindGood (s : State) (q : Query) (i : Image) : Type 0 where
   pub file : File (List Image)
   pub entries : List Bytes
   pub reads : targetsIn (q .file) ≡ says file entries
-  pub digest : GoodDigest (q .digest)
   pub on : LeansOnTargets s
-  pub kept : q .digest ≡ on .targets .digest
+  pub kept : digestOf (q .file) ≡ on .targets .digest
   pub notEmpty : 1 ≤ length (q .path)
   pub notLong : length (q .path) ≤ maxPath
   pub listed : imageOf (q .path) (file .body) ≡ some i
@@ -144,13 +142,13 @@ ImageExactly listed fetched = (imageAnswer listed fetched ≡ 0) ↔ ImageGood l
 pub record Demand2 (s : State) : Type 0 where
   pub root : (o : RootOffer) → (answer s (newRoot o) ≡ 0) ↔ ((r : Root) × RootGood s o r)
   pub rootAfter : (o : RootOffer) (r : Root) (g : RootGood s o r) → next s (newRoot o) ≡ withRoot s (g .held) r
-  pub timestamp : (o : TimestampOffer) → (answer s (newTimestamp o) ≡ 0) ↔ ((t : Timestamp) × TimestampGood s o t)
-  pub timestampAfter : (o : TimestampOffer) (t : Timestamp) → TimestampGood s o t → next s (newTimestamp o) ≡ withTimestamp s t
+  pub timestamp : (o : FileOffer) → (answer s (newTimestamp o) ≡ 0) ↔ ((t : Timestamp) × TimestampGood s o t)
+  pub timestampAfter : (o : FileOffer) (t : Timestamp) → TimestampGood s o t → next s (newTimestamp o) ≡ withTimestamp s t
   pub snapshot : (o : FileOffer) → (answer s (newSnapshot o) ≡ 0) ↔ ((n : Snapshot) × SnapshotGood s o n)
   pub snapshotAfter : (o : FileOffer) (n : Snapshot) → SnapshotGood s o n → next s (newSnapshot o) ≡ withSnapshot s n
   pub targets : (o : FileOffer) → (answer s (newTargets o) ≡ 0) ↔ ((g : File (List Image)) × TargetsGood s o g)
   pub targetsAfter : (o : FileOffer) (g : File (List Image)) → TargetsGood s o g
-      → next s (newTargets o) ≡ withTargets s (keepTargets g (o .digest))
+      → next s (newTargets o) ≡ withTargets s (keepTargets (o .file) g)
   -- "New cycle: always succeeds."
   pub cycle : (t : ℤ) → (answer s (newCycle t) ≡ 0) × (next s (newCycle t) ≡ withStart s t)
   -- "Success gives length and sha256; a refusal gives zeros"

@@ -1,13 +1,15 @@
 -- The forms of 01 ("Forms"), in its order: what a JSON value of each form says; nothing where the form is broken. Members that no form
 -- names are passed over.
-use mathlib.Core.Option.{Option, some}
+use mathlib.Core.Option.{Option, none, some}
 use mathlib.Core.List.{List, [], _∷_, map}
 use mathlib.Core.Bool.{Bool, true, false, not, _&&_, _||_}
 use Prim.Native.Nat.{ℕ}
 use lib.Dec.{leb}
 use lib.ListN.{length, take}
 use Rattle.base.specs.Bytes.{Bytes, bytes, same}
-use Rattle.json.specs.Json.{Json, put}
+use Rattle.base.specs.Hex.{hexOf}
+use Rattle.sha256.specs.Message.{digestOf}
+use Rattle.json.specs.Json.{Json, Members, mnil, mcons, put}
 use Rattle.json.specs.Fields.{items, members, text, truth, number, lookup, field, keep, size, count, placeOf}
 use Rattle.rules.specs.Limits.{maxEntries, maxVersion, maxKeys, maxKeyids, maxNames, maxName, maxLength, maxTargets, maxPath, digestSize, keySize, signatureSize}
 use Rattle.rules.specs.Take.{_>>=_, must, may, sole, each, eachNamed, word, unhex, hex, date, nameOf}
@@ -92,6 +94,20 @@ keys v =
     eachNamed key ms >>= λ keys.
     keep (different (map (λ (k : Key). k .public) keys)) keys
 
+-- A1: "A key table's keyid must be the hex digest of the canonical text of its key, unknown members included"
+unfoldable pub keyidOf : Json → Bytes
+keyidOf key = hexOf (digestOf (put key []))
+
+-- every keyid of a table is its key's
+unfoldable pub ownKeyids : Members → Bool
+ownKeyids mnil = true
+ownKeyids (mcons keyid key ms) = same keyid (keyidOf key) && ownKeyids ms
+
+-- the same of a member that may be no table, which is a broken form and said before
+unfoldable pub ownTable : Option Members → Bool
+ownTable none = true
+ownTable (some ms) = ownKeyids ms
+
 -- "1 to 16 different keyids from the key table and a threshold from 1 to the number of those keyids"
 unfoldable pub role : List Bytes → Json → Option Role
 role table v =
@@ -120,6 +136,10 @@ root v =
       snapshotRole = snapshotRole;
       targetsRole = targetsRole;
     })
+
+-- a root's key table
+unfoldable pub rootKeyids : Json → Bool
+rootKeyids v = ownTable (must (bytes "keys") members v)
 
 -- ## Timestamp and snapshot
 

@@ -7,11 +7,12 @@ use Prim.Native.Nat.{_+_, _≤_, _<_}
 use lib.IntN.{ℤ}
 use lib.ListN.{length}
 use Rattle.base.specs.Bytes.{Bytes}
-use Rattle.rules.specs.Records.{Image, File, Read, says}
-use Rattle.rules.specs.State.{Root, Timestamp, Snapshot, Targets, State, keepTargets, rootIn, timestampIn, snapshotIn, targetsIn, Install, RootOffer, TimestampOffer, FileOffer, Call, newRoot, newTimestamp, newSnapshot, newTargets}
+use Rattle.sha256.specs.Message.{digestOf}
+use Rattle.rules.specs.Records.{Key, Image, File, Read, says}
+use Rattle.rules.specs.State.{Root, Timestamp, Snapshot, Targets, State, keepTargets, rootIn, timestampIn, snapshotIn, targetsIn, Install, RootOffer, FileOffer, Call, newRoot, newTimestamp, newSnapshot, newTargets}
 use Rattle.rules.specs.Conditions.{targetsEntry}
 use Rattle.rules.specs.Steps.{installAnswer, answer, Item, aRoot, aTimestamp, aSnapshot, aTargets, offered, next, installed}
-use Rattle.rules.specs.Words.{GoodRow, GoodDigest, Enough, SameKeys, Expired, Keeps, Matches}
+use Rattle.rules.specs.Words.{GoodRow, Enough, OwnKeyid, Collision, SameKeys, Expired, Keeps, Matches}
 
 -- ## Histories
 
@@ -106,7 +107,7 @@ Quiet s [] = Unit {0}
 Quiet s (c ∷ cs) = Idle s c × Quiet (next s c) cs
 
 -- one of the publisher's calls: what comes between the publisher's call before it and this one, what it offers, and what the offered
--- file says
+-- file says: none of 1 to 4 holds, nor A1's 16
 pub record Turn (O A : Type 0) (reading : O → Read A) : Type 0 where
   pub between : List Call
   pub offer : O
@@ -120,7 +121,7 @@ RootTurn = Turn RootOffer Root (λ o. rootIn (o .file))
 -- "any number of root calls or none, then timestamp, snapshot, targets"
 pub record Plan : Type 0 where
   pub roots : List RootTurn
-  pub timestamp : Turn TimestampOffer Timestamp (λ o. timestampIn (o .file))
+  pub timestamp : Turn FileOffer Timestamp (λ o. timestampIn (o .file))
   pub snapshot : Turn FileOffer Snapshot (λ o. snapshotIn (o .file))
   pub targets : Turn FileOffer (File (List Image)) (λ o. targetsIn (o .file))
 
@@ -183,9 +184,7 @@ pub record Honest (s : State) (held : Root) (p : Plan) : Type 0 where
   -- "all well-formed"
   pub timestampRow : GoodRow (p .timestamp .entries) (p .timestamp .offer .row)
   pub snapshotRow : GoodRow (p .snapshot .entries) (p .snapshot .offer .row)
-  pub snapshotDigest : GoodDigest (p .snapshot .offer .digest)
   pub targetsRow : GoodRow (p .targets .entries) (p .targets .offer .row)
-  pub targetsDigest : GoodDigest (p .targets .offer .digest)
   -- "The others have enough keys of the last root"
   pub roots : InTurn held (p .roots)
   pub timestampKeys : Enough (lastRoot held (p .roots) .timestampRole) (p .timestamp .entries) (p .timestamp .offer .row)
@@ -199,9 +198,9 @@ pub record Honest (s : State) (held : Root) (p : Plan) : Type 0 where
   pub keeps : (n : Snapshot) → atSnapshot s p .snapshot ≡ some n → Keeps (n .names) (p .snapshot .file .names)
   -- "Snapshot and targets have the version listed, and length and digest where listed"
   pub snapshotVersion : p .snapshot .file .version ≡ p .timestamp .file .snapshot .version
-  pub snapshotMatches : Matches (p .timestamp .file .snapshot) (length (p .snapshot .offer .file)) (p .snapshot .offer .digest)
+  pub snapshotMatches : Matches (p .timestamp .file .snapshot) (length (p .snapshot .offer .file)) (digestOf (p .snapshot .offer .file))
   pub targetsVersion : p .targets .file .version ≡ targetsEntry (p .snapshot .file) .version
-  pub targetsMatches : Matches (targetsEntry (p .snapshot .file)) (length (p .targets .offer .file)) (p .targets .offer .digest)
+  pub targetsMatches : Matches (targetsEntry (p .snapshot .file)) (length (p .targets .offer .file)) (digestOf (p .targets .offer .file))
   -- not expired "at any start time in force from the timestamp call to the targets call"
   pub freshTimestamp : Fresh (lastRoot held (p .roots)) p (atTimestamp s p .start)
   pub freshSnapshot : Fresh (lastRoot held (p .roots)) p (atSnapshot s p .start)
@@ -221,7 +220,7 @@ pub record Through (s : State) (held : Root) (p : Plan) : Type 0 where
   pub holdsRoot : atEnd s p .root ≡ some (lastRoot held (p .roots))
   pub holdsTimestamp : atEnd s p .timestamp ≡ some (p .timestamp .file)
   pub holdsSnapshot : atEnd s p .snapshot ≡ some (p .snapshot .file)
-  pub holdsTargets : atEnd s p .targets ≡ some (keepTargets (p .targets .file) (p .targets .offer .digest))
+  pub holdsTargets : atEnd s p .targets ≡ some (keepTargets (p .targets .offer .file) (p .targets .file))
 
 -- ## The claim
 
@@ -241,7 +240,14 @@ pub record Demand3 (h : History) : Type 0 where
       ↔ LastOf (happened h) (aSnapshot n) (AnotherOr aSnapshot OtherKeys)
   pub heldTargets : (g : Targets) → (end h .targets ≡ some g)
       ↔ LastOf (happened h) (aTargets g) (AnotherOr aTargets OtherTargetsKeys)
-  -- A root is always held. A well-formed file offered as the next one becomes trusted exactly when its version is one above the held
+  -- A1: every key of a root that became trusted has the digest of its text as its keyid; so a keyid stands for one key in all of them,
+  -- unless two texts have one digest.
+  pub keyids : (e : Event) (r : Root) → List·Memᴰ e (happened h) → BecomesTrusted e (aRoot r) → (k : Key) → List·Memᴰ k (r .keys)
+      → OwnKeyid k
+  pub oneKey : (e₁ e₂ : Event) (r₁ r₂ : Root) → List·Memᴰ e₁ (happened h) → List·Memᴰ e₂ (happened h) → BecomesTrusted e₁ (aRoot r₁)
+      → BecomesTrusted e₂ (aRoot r₂) → (k l : Key) → List·Memᴰ k (r₁ .keys) → List·Memᴰ l (r₂ .keys) → k .keyid ≡ l .keyid
+      → (k ≡ l) ⊎ Collision
+  -- A root is always held. A well-formed file (1 to 5 do not hold, nor A1's 16) offered as the next one becomes trusted exactly when its version is one above the held
   -- one's and enough keys of the held root and enough of its own signed it.
   pub rootExactly : (s : State) (o : RootOffer) (r : Root) (entries : List Bytes) → List·Memᴰ (calls s (newRoot o)) (happened h)
       → rootIn (o .file) ≡ says r entries → GoodRow entries (o .heldRow) → GoodRow entries (o .ownRow)

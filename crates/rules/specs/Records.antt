@@ -55,11 +55,11 @@ pub record Entry : Type 0 where
   pub keyid : Bytes
   pub sig : Bytes
 
--- why a file says nothing: refusals 1 to 4
+-- why a file says nothing: refusals 1, 2, 3, 16 and 4, in the order in which they are tried
 pub data Fault : Type 0 where
-  tooLong notText badForm otherSpec : Fault
+  tooLong notText badForm otherKeyid otherSpec : Fault
 
--- what reading gave: the lowest of those that holds, or what the file says with the keyids of its entries in file order
+-- what reading gave: the first of those that holds, or what the file says with the keyids of its entries in file order
 pub data Read (A : Type 0) : Type 0 where
   refused : Fault → Read A
   says : A → List Bytes → Read A

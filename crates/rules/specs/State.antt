@@ -5,6 +5,7 @@ use mathlib.Core.List.{List, [], _∷_, map}
 use Prim.Native.Nat.{ℕ}
 use lib.IntN.{ℤ, negsuc}
 use Rattle.base.specs.Bytes.{Bytes}
+use Rattle.sha256.specs.Message.{digestOf}
 use Rattle.rules.specs.Records as records
 use Rattle.rules.specs.Records.{Key, Role, Listed, Named, Image, File, Read, refused, says}
 use Rattle.rules.specs.Forms.{isIn}
@@ -78,8 +79,8 @@ keepTimestamp f = record { version = f .version; expires = f .expires; snapshot 
 unfoldable pub keepSnapshot : File (List Named) → Snapshot
 keepSnapshot f = record { version = f .version; expires = f .expires; names = f .body }
 
-unfoldable pub keepTargets : File (List Image) → Bytes → Targets
-keepTargets f digest = record { version = f .version; expires = f .expires; digest = digest }
+unfoldable pub keepTargets : Bytes → File (List Image) → Targets
+keepTargets file f = record { version = f .version; expires = f .expires; digest = digestOf file }
 
 -- a reading, with what is kept of the file in place of what it says
 unfoldable pub kept : {A B : Type 0} → (A → B) → Read A → Read B
@@ -117,27 +118,21 @@ pub record RootOffer : Type 0 where
   pub heldRow : Row
   pub ownRow : Row
 
-pub record TimestampOffer : Type 0 where
-  pub file : Bytes
-  pub row : Row
-
--- "Only snapshot, targets, find and image are given a digest"
+-- a timestamp, snapshot or targets file and its row (A1: "Digest arguments for metadata go away")
 pub record FileOffer : Type 0 where
   pub file : Bytes
   pub row : Row
-  pub digest : Bytes
 
--- "given the targets file, its digest and a path"
+-- "given the targets file .. and a path"
 pub record Query : Type 0 where
   pub file : Bytes
-  pub digest : Bytes
   pub path : Bytes
 
 -- the calls that are given a state
 pub data Call : Type 0 where
   newCycle : ℤ → Call
   newRoot : RootOffer → Call
-  newTimestamp : TimestampOffer → Call
+  newTimestamp : FileOffer → Call
   newSnapshot : FileOffer → Call
   newTargets : FileOffer → Call
   find : Query → Call

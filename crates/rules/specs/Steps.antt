@@ -10,16 +10,17 @@ use lib.IntN.{ℤ}
 use lib.ListN.{length}
 use Rattle.base.specs.Bytes.{Bytes, same}
 use Rattle.base.specs.Hex.{isHex, undo}
+use Rattle.sha256.specs.Message.{digestOf}
 use Rattle.date.specs.Calendar.{expired}
 use Rattle.rules.specs.Limits.{maxPath, keySize}
-use Rattle.rules.specs.Records.{Image, File, Fault, tooLong, notText, badForm, otherSpec, Read, refused, says}
-use Rattle.rules.specs.State.{Root, Timestamp, Snapshot, Targets, State, blank, keepTargets, rootIn, timestampIn, snapshotIn, targetsIn, Install, RootOffer, TimestampOffer, FileOffer, Query, Call, newCycle, newRoot, newTimestamp, newSnapshot, newTargets, find, askKey, askState}
+use Rattle.rules.specs.Records.{Image, File, Fault, tooLong, notText, badForm, otherKeyid, otherSpec, Read, refused, says}
+use Rattle.rules.specs.State.{Root, Timestamp, Snapshot, Targets, State, blank, keepTargets, rootIn, timestampIn, snapshotIn, targetsIn, Install, RootOffer, FileOffer, Query, Call, newCycle, newRoot, newTimestamp, newSnapshot, newTargets, find, askKey, askState}
 use Rattle.rules.specs.Table.{Refusal, _when_, first, ofHeld, absent}
-use Rattle.rules.specs.Conditions.{badRow, badDigest, otherVersion, targetsEntry, staleSnapshot, staleTargets, otherLength, otherDigest, tooFew, lost, rotates, rotatesTargets, imageOf, keyOf}
+use Rattle.rules.specs.Conditions.{badRow, otherVersion, targetsEntry, staleSnapshot, staleTargets, otherLength, otherDigest, tooFew, lost, rotates, rotatesTargets, imageOf, keyOf}
 
 -- ## The refusals of each call, from 5 on
 
--- "Install (1 to 5, 10): a root judged by its own root role. No expiry check."
+-- "Install (1 to 5, 10): a root judged by its own root role. No expiry check." With A1's 16, as all of reading's, before these.
 unfoldable pub installTable : Install → Root → List Bytes → List Refusal
 installTable o r es =
     5 when badRow es (o .row)
@@ -30,7 +31,7 @@ installTable o r es =
 unfoldable pub cycleTable : State → ℤ → List Refusal
 cycleTable s t = []
 
--- "Root (1 to 6, 9, 10, 11): version exactly held plus one. Expiry does not matter here."
+-- "Root (1 to 6, 9, 10, 11): version exactly held plus one. Expiry does not matter here." With A1's 16 likewise.
 unfoldable pub rootTable : State → RootOffer → Root → List Bytes → List Refusal
 rootTable s o r es =
     5 when badRow es (o .heldRow)
@@ -43,7 +44,7 @@ rootTable s o r es =
 
 -- "Timestamp (1 to 7, 9, 11 to 14): leans on root. Below the held version 11, equal 12. 13 if its snapshot version is below the held
 -- timestamp's."
-unfoldable pub timestampTable : State → TimestampOffer → Timestamp → List Bytes → List Refusal
+unfoldable pub timestampTable : State → FileOffer → Timestamp → List Bytes → List Refusal
 timestampTable s o t es =
     5 when badRow es (o .row)
     ∷ 6 when absent (s .root)
@@ -60,13 +61,12 @@ timestampTable s o t es =
 unfoldable pub snapshotTable : State → FileOffer → Snapshot → List Bytes → List Refusal
 snapshotTable s o n es =
     5 when badRow es (o .row)
-    ∷ 5 when badDigest (o .digest)
     ∷ 6 when absent (s .root)
     ∷ 6 when absent (s .timestamp)
     ∷ 7 when ofHeld (s .root) (λ r. expired (r .expires) (s .start))
     ∷ 7 when ofHeld (s .timestamp) (λ t. expired (t .expires) (s .start))
     ∷ 8 when ofHeld (s .timestamp) (λ t. otherLength (t .snapshot) (length (o .file)))
-    ∷ 8 when ofHeld (s .timestamp) (λ t. otherDigest (t .snapshot) (o .digest))
+    ∷ 8 when ofHeld (s .timestamp) (λ t. otherDigest (t .snapshot) (digestOf (o .file)))
     ∷ 9 when ofHeld (s .root) (λ r. tooFew (r .snapshotRole) es (o .row))
     ∷ 11 when ofHeld (s .timestamp) (λ t. otherVersion (n .version) (t .snapshot .version))
     ∷ 13 when ofHeld (s .snapshot) (λ h. lost (h .names) (n .names))
@@ -78,7 +78,6 @@ snapshotTable s o n es =
 unfoldable pub targetsTable : State → FileOffer → File (List Image) → List Bytes → List Refusal
 targetsTable s o g es =
     5 when badRow es (o .row)
-    ∷ 5 when badDigest (o .digest)
     ∷ 6 when absent (s .root)
     ∷ 6 when absent (s .timestamp)
     ∷ 6 when absent (s .snapshot)
@@ -87,7 +86,7 @@ targetsTable s o g es =
     ∷ 7 when ofHeld (s .timestamp) (λ t. expired (t .expires) (s .start))
     ∷ 7 when ofHeld (s .snapshot) (λ n. expired (n .expires) (s .start))
     ∷ 8 when ofHeld (s .snapshot) (λ n. otherLength (targetsEntry n) (length (o .file)))
-    ∷ 8 when ofHeld (s .snapshot) (λ n. otherDigest (targetsEntry n) (o .digest))
+    ∷ 8 when ofHeld (s .snapshot) (λ n. otherDigest (targetsEntry n) (digestOf (o .file)))
     ∷ 9 when ofHeld (s .root) (λ r. tooFew (r .targetsRole) es (o .row))
     ∷ 11 when ofHeld (s .snapshot) (λ n. otherVersion (g .version) (targetsEntry n .version))
     ∷ 14 when expired (g .expires) (s .start)
@@ -97,8 +96,7 @@ targetsTable s o g es =
 -- is not the kept one. A path of length 0 or above 128 is 15."
 unfoldable pub findTable : State → Query → File (List Image) → List Bytes → List Refusal
 findTable s q g es =
-    5 when badDigest (q .digest)
-    ∷ 6 when absent (s .root)
+    6 when absent (s .root)
     ∷ 6 when absent (s .timestamp)
     ∷ 6 when absent (s .snapshot)
     ∷ 6 when absent (s .targets)
@@ -108,7 +106,7 @@ findTable s q g es =
     ∷ 7 when ofHeld (s .timestamp) (λ t. expired (t .expires) (s .start))
     ∷ 7 when ofHeld (s .snapshot) (λ n. expired (n .expires) (s .start))
     ∷ 7 when ofHeld (s .targets) (λ k. expired (k .expires) (s .start))
-    ∷ 8 when ofHeld (s .targets) (λ k. not (same (q .digest) (k .digest)))
+    ∷ 8 when ofHeld (s .targets) (λ k. not (same (digestOf (q .file)) (k .digest)))
     ∷ 15 when leb (length (q .path)) 0
     ∷ 15 when ltb maxPath (length (q .path))
     ∷ 15 when absent (imageOf (q .path) (g .body))
@@ -128,6 +126,7 @@ unfoldable pub faultNumber : Fault → ℕ
 faultNumber tooLong = 1
 faultNumber notText = 2
 faultNumber badForm = 3
+faultNumber otherKeyid = 16
 faultNumber otherSpec = 4
 
 -- reading's refusal, or else the first of the table that holds
@@ -215,7 +214,7 @@ offered (newCycle t) = none
 offered (newRoot o) = whatSays aRoot (rootIn (o .file))
 offered (newTimestamp o) = whatSays aTimestamp (timestampIn (o .file))
 offered (newSnapshot o) = whatSays aSnapshot (snapshotIn (o .file))
-offered (newTargets o) = whatSays (λ g. aTargets (keepTargets g (o .digest))) (targetsIn (o .file))
+offered (newTargets o) = whatSays (λ g. aTargets (keepTargets (o .file) g)) (targetsIn (o .file))
 offered (find q) = none
 offered (askKey k) = none
 offered askState = none

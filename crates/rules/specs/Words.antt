@@ -8,8 +8,11 @@ use lib.IntN.{ℤ}
 use lib.ListN.{length}
 use lib.Signed.{_≤ℤ_}
 use Rattle.base.specs.Bytes.{Bytes}
+use Rattle.sha256.specs.Message.{digestOf}
+use Rattle.json.specs.Json.{Json, put, Valid}
 use Rattle.rules.specs.Limits.{digestSize}
-use Rattle.rules.specs.Records.{Role, Listed, Named}
+use Rattle.rules.specs.Records.{Key, Role, Listed, Named}
+use Rattle.rules.specs.Forms.{key, keyidOf}
 use Rattle.rules.specs.State.{Row}
 use Rattle.rules.specs.Conditions.{listedAs}
 
@@ -45,6 +48,21 @@ pub record Enough (role : Role) (entries : List Bytes) (row : Row) : Type 0 wher
   pub keys : List Bytes
   pub signers : Signers role entries row keys
   pub many : role .threshold ≤ length keys
+
+-- A1: "A key table's keyid must be the hex digest of the canonical text of its key": that of a valid value which says this key
+pub record OwnKeyid (k : Key) : Type 0 where
+  pub value : Json
+  pub depth : ℕ
+  pub valid : Valid value depth
+  pub says : key (keyidOf value) value ≡ some k
+  pub digest : k .keyid ≡ digestOf (put value [])
+
+-- two texts of one digest
+pub record Collision : Type 0 where
+  pub one : Bytes
+  pub other : Bytes
+  pub differ : ¬ (one ≡ other)
+  pub digest : digestOf one ≡ digestOf other
 
 -- the role has the same set of keyids in both
 abbrev pub SameKeys : Role → Role → Type 0

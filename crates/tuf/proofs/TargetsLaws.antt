@@ -4,17 +4,24 @@ use mathlib.Core.Option.{Option, none, some, bind}
 use mathlib.Core.List.{List}
 use mathlib.Core.Bool.{Bool, true, false, not}
 use Prim.Native.Nat.{ℕ}
+use native.Mathlib.Omega.{arith}
 use lib.IntN.{ℤ}
+use lib.ListN.{length}
+use lib.Seq.{take-all}
 use borrow.Author.Tests.{ne-eqb}
 use Rattle.base.specs.Bytes.{Bytes}
 use Rattle.base.proofs.TestLaws.{never}
+use Rattle.base.proofs.WindowLaws.{window-part}
+use Rattle.sha256.specs.Message.{digestOf}
+use Rattle.sha256.proofs.DigestLaws.{digest-length}
 use Rattle.json.specs.Fields.{keep}
+use Rattle.rules.specs.Limits.{digestSize}
 use Rattle.rules.specs.Records.{Image, File, Fault, Read, refused, says}
 use Rattle.rules.specs.State as rules
-use Rattle.rules.specs.State.{keepTargets, kept, targetsIn, FileOffer, Query, find}
+use Rattle.rules.specs.State.{keepTargets, kept, targetsIn, Query, find}
 use Rattle.rules.specs.Table.{Refusal, first, absent}
-use Rattle.rules.specs.Conditions.{badDigest, imageOf}
-use Rattle.rules.specs.Steps.{targetsTable, findTable, faultNumber, judged, answer, refuses, withTargets, aTargets, trusting}
+use Rattle.rules.specs.Conditions.{imageOf}
+use Rattle.rules.specs.Steps.{findTable, faultNumber, judged, answer, refuses, withTargets, aTargets, trusting}
 use Rattle.rules.specs.Asked.{Found, theImage, inTargets, found}
 use Rattle.rules.proofs.OptionLaws.{none-not-some, some-is}
 use Rattle.rules.proofs.ReadingLaws.{kept-says}
@@ -22,7 +29,6 @@ use Rattle.rules.proofs.TableLaws.{judged-is, no-line}
 use Rattle.answers.specs.Number.{numberOf}
 use Rattle.answers.proofs.MostLaws.{answer-most, named}
 use Rattle.records.specs.View.{viewId, viewEntries}
-use Rattle.records.specs.declared.Id.{Id}
 use Rattle.judge.specs.Offer.{Dated}
 use Rattle.envelope.proofs.ReadLaws.{read-says, read-refused}
 use Rattle.targets_file.specs.View.{listedImage, Seen, seen, viewTargetsRead}
@@ -65,13 +71,18 @@ module _ (path file : Bytes) (t : TargetsRead) (w : viewTargetsRead t ≡ some (
 
 -- ## What is kept of the file
 
-pub targets-after : (s : rules.State) (o : FileOffer) (g : File (List Image)) (es : List Bytes) (version : ℕ) (expires : ℤ) (id : Id)
-    → first (targetsTable s o g es) ≡ 0 → Dated g version expires → (badDigest (o .digest) ≡ false → viewId id ≡ o .digest)
-    → withTargets s (record { version = version; expires = expires; digest = viewId id }) ≡ trusting s (aTargets (keepTargets g (o .digest)))
-unfolding trusting keepTargets targetsTable
-targets-after s o g es version expires id z d f =
-    let e = f (no-line (targetsTable s o g es) refl z 5 1) in
-    rw (d .version-is, d .expires-is, e) refl
+-- a digest, as it is kept
+pub digest-kept : (file bytes : Bytes) → bytes ≡ digestOf file → viewId (record { bytes = bytes }) ≡ digestOf file
+unfolding viewId
+digest-kept file bytes e =
+    let l : length bytes ≡ digestSize = ap length e ∙ digest-length file in
+    window-part bytes 0 digestSize (omega arith) ∙ take-all digestSize bytes (omega arith) ∙ e
+
+pub targets-after : (s : rules.State) (file : Bytes) (g : File (List Image)) (version : ℕ) (expires : ℤ) (bytes : Bytes)
+    → Dated g version expires → bytes ≡ digestOf file
+    → withTargets s (record { version = version; expires = expires; digest = viewId (record { bytes = bytes }) }) ≡ trusting s (aTargets (keepTargets file g))
+unfolding trusting keepTargets
+targets-after s file g version expires bytes d e = rw (d .version-is, d .expires-is, digest-kept file bytes e) refl
 
 -- ## Find
 

@@ -8,7 +8,7 @@ use Rattle.rules.specs.Limits.{keySize}
 use Rattle.rules.specs.State.{Query, Call, find, askKey}
 use Rattle.rules.specs.Steps.{answer, refuses, Stepped}
 use Rattle.rules.specs.Asked.{Found, nothingFound, found, publicKey}
-use Rattle.answers.specs.Number.{numberOf}
+use Rattle.answers.specs.Number.{numberOf, highest}
 use Rattle.answers.specs.declared.Answer.{Answer}
 use Rattle.records.specs.View.{viewId}
 use Rattle.state.specs.declared.State as state
@@ -27,7 +27,7 @@ pub record Steps (self : State) (c : Call) (n : ℕ) (after : State) : Type 0 wh
 
 -- the two ways out of a step
 pub record Refuses (s : State) (n : ℕ) (r : Step) : Type 0 where
-  pub answer : numberOf (r .answer) ≡ min n 15
+  pub answer : numberOf (r .answer) ≡ min n highest
   pub state : r .state ≡ s
 
 pub record Accepts (trusted : state.State) (r : Step) : Type 0 where
@@ -41,7 +41,7 @@ pub record FindsImage (self : State) (q : Query) (n : ℕ) (image : Found) : Typ
   pub gives : image ≡ found (view self) q
 
 pub record NoImage (n : ℕ) (r : Image) : Type 0 where
-  pub answer : numberOf (r .answer) ≡ min n 15
+  pub answer : numberOf (r .answer) ≡ min n highest
   pub zeros : viewImage r ≡ nothingFound
 
 -- ## Key

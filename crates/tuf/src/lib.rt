@@ -1,10 +1,9 @@
 // The library that a controller links: the trusted state and every call of 01. A call reads what it is given, judges it by 01's table and
 // returns the answer with the next state; a refusal returns the state that it was given. No call asks anything of its caller.
 ghost use mathlib.Core.Path.{_≡_};
-ghost use mathlib.Core.Bool.{false};
 ghost use Prim.Native.Nat.{_+_};
+ghost use Rattle.sha256.specs.Message.{digestOf};
 ghost use Rattle.rules.specs.State.{blank as blankState, newCycle, newRoot, newTimestamp, newSnapshot, newTargets};
-ghost use Rattle.rules.specs.Conditions.{badDigest};
 ghost use Rattle.rules.specs.Steps.{Began};
 ghost use Rattle.rules.specs.Asked.{imageAnswer, look as lookInto, signedPart, entryAt};
 ghost use Rattle.answers.specs.Number.{numberOf};
@@ -61,7 +60,7 @@ impl State {
         State { trusted }
     }
 
-    // "Install (1 to 5, 10)": "a refused one returns the blank state"
+    // "Install (1 to 5, 10)", and 16: "a refused one returns the blank state"
     pub fn install(file: &[u8], row: &[u8], start: Time) -> Step
         ensures { λ r. ⌜ Began (record { file = now (file .entry); row = now (row .entry); start = start .seconds }) (numberOf (r .answer)) (view (r .state)) ⌝ }
     {
@@ -84,7 +83,7 @@ impl State {
         accepted(self.trusted.with_start(start))
     }
 
-    // "Root (1 to 6, 9, 10, 11)": the row of verdicts under the held root's keys, and the one under its own
+    // "Root (1 to 6, 9, 10, 11)", and 16: the row of verdicts under the held root's keys, and the one under its own
     pub fn root(self, file: &[u8], held: &[u8], own: &[u8]) -> Step
         ensures { λ r. ⌜ Steps self (newRoot (record { file = now (file .entry); heldRow = now (held .entry); ownRow = now (own .entry) })) (numberOf (r .answer)) (r .state) ⌝ }
     {
@@ -115,21 +114,22 @@ impl State {
     }
 
     // "Snapshot (1 to 9, 11, 13, 14)"
-    pub fn snapshot(self, file: &[u8], row: &[u8], digest: &[u8]) -> Step
-        ensures { λ r. ⌜ Steps self (newSnapshot (record { file = now (file .entry); row = now (row .entry); digest = now (digest .entry) })) (numberOf (r .answer)) (r .state) ⌝ }
+    pub fn snapshot(self, file: &[u8], row: &[u8]) -> Step
+        ensures { λ r. ⌜ Steps self (newSnapshot (record { file = now (file .entry); row = now (row .entry) })) (numberOf (r .answer)) (r .state) ⌝ }
     {
         let read = snapshot_file::read_snapshot(file);
         if read.answer != 0 {
             return self.refused(read.answer);
         }
         let size = wide(file.len());
+        let digest = sha256::digest(file);
         let answer = judge::judge_snapshot(
             self.trusted,
             read.snapshot,
             read.entries,
             row,
             size,
-            digest,
+            &digest,
         );
         if answer != 0 {
             return self.refused(answer);
@@ -138,14 +138,15 @@ impl State {
     }
 
     // "Targets (1 to 9, 11, 14)": "The file's digest is kept". No path is asked for.
-    pub fn targets(self, file: &[u8], row: &[u8], digest: &[u8]) -> Step
-        ensures { λ r. ⌜ Steps self (newTargets (record { file = now (file .entry); row = now (row .entry); digest = now (digest .entry) })) (numberOf (r .answer)) (r .state) ⌝ }
+    pub fn targets(self, file: &[u8], row: &[u8]) -> Step
+        ensures { λ r. ⌜ Steps self (newTargets (record { file = now (file .entry); row = now (row .entry) })) (numberOf (r .answer)) (r .state) ⌝ }
     {
         let read = targets_file::read_targets(file, b"");
         if read.answer != 0 {
             return self.refused(read.answer);
         }
-        let bytes = wide(file.len());
+        let size = wide(file.len());
+        let bytes = sha256::digest(file);
         let expires = read.expires;
         let answer = judge::judge_targets(
             self.trusted,
@@ -153,30 +154,30 @@ impl State {
             expires,
             read.entries,
             row,
-            bytes,
-            digest,
+            size,
+            &bytes,
         );
         if answer != 0 {
             return self.refused(answer);
         }
-        let kept = id_of(digest);
         let new = Targets {
             version: read.version,
             expires,
-            digest: kept,
+            digest: Id { bytes },
         };
         accepted(self.trusted.with_targets(new))
     }
 
     // "Find (1 to 8, 15)": "Success gives length and sha256; a refusal gives zeros"
-    pub fn find(self, file: &[u8], digest: &[u8], path: &[u8]) -> Image
-        ensures { λ r. ⌜ FindsImage self (record { file = now (file .entry); digest = now (digest .entry); path = now (path .entry) }) (numberOf (r .answer)) (viewImage r) ⌝ }
+    pub fn find(self, file: &[u8], path: &[u8]) -> Image
+        ensures { λ r. ⌜ FindsImage self (record { file = now (file .entry); path = now (path .entry) }) (numberOf (r .answer)) (viewImage r) ⌝ }
     {
         let read = targets_file::read_targets(file, path);
         if read.answer != 0 {
             return no_image(read.answer);
         }
-        let answer = judge::judge_find(self.trusted, digest, path, read.listed);
+        let digest = sha256::digest(file);
+        let answer = judge::judge_find(self.trusted, &digest, path, read.listed);
         if answer != 0 {
             return no_image(answer);
         }
@@ -228,6 +229,14 @@ impl State {
             state: self,
         }
     }
+}
+
+// SHA-256 of any bytes: for the image check, the digest of the fetched ones.
+pub fn digest(bytes: &[u8]) -> Id
+    ensures { λ r. ⌜ viewId r ≡ digestOf (now (bytes .entry)) ⌝ }
+{
+    let hash = sha256::digest(bytes);
+    Id { bytes: hash }
 }
 
 // "Image (5, 8): the found length and digest against the fetched ones"
@@ -308,20 +317,4 @@ fn no_key(answer: Answer) -> PublicKey
         answer,
         public: Id { bytes: [0u8; 32] },
     }
-}
-
-// A digest that was judged: of another number of bytes than 32 it gives zeros.
-fn id_of(digest: &[u8]) -> Id
-    ensures { λ r. ⌜ (badDigest (now (digest .entry)) ≡ false → viewId r ≡ now (digest .entry)) ⌝ }
-{
-    let mut bytes = [0u8; 32];
-    if judge::is_bad_digest(digest) {
-        return Id { bytes };
-    }
-    let mut i: usize = 0;
-    while i < records::DIGEST {
-        bytes[i] = digest[i];
-        i += 1;
-    }
-    Id { bytes }
 }

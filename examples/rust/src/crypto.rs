@@ -1,4 +1,4 @@
-//! Ed25519 and SHA-256, by OpenSSL's libcrypto. A controller of your own takes the library that it has.
+//! Ed25519, by OpenSSL's libcrypto. A controller of your own takes the library that it has.
 
 use gronwythal::{ID_SIZE, SIGNATURE_SIZE};
 use std::ffi::{c_int, c_void};
@@ -20,7 +20,6 @@ unsafe extern "C" {
         key: *mut c_void,
     ) -> c_int;
     fn EVP_DigestVerify(context: *mut c_void, sig: *const u8, sig_len: usize, part: *const u8, len: usize) -> c_int;
-    fn SHA256(bytes: *const u8, len: usize, digest: *mut u8) -> *mut u8;
 }
 
 /// Whether it is a good signature. A check that cannot be made is a bad one.
@@ -37,13 +36,4 @@ pub fn verifies(public: &[u8; ID_SIZE], part: &[u8], sig: &[u8; SIGNATURE_SIZE])
         EVP_PKEY_free(key);
         good
     }
-}
-
-/// The SHA-256 of the bytes.
-pub fn sha256(bytes: &[u8]) -> [u8; ID_SIZE] {
-    let mut digest = [0; ID_SIZE];
-    // SAFETY: the length is that of the slice, and a digest has 32 bytes.
-    let written = unsafe { SHA256(bytes.as_ptr(), bytes.len(), digest.as_mut_ptr()) };
-    assert!(!written.is_null(), "libcrypto gives no SHA-256");
-    digest
 }

@@ -7,7 +7,7 @@
 
 mod crypto;
 
-use gronwythal::{ID_SIZE, MAX_ENTRIES, Refusal, State, entry, look, signed_part};
+use gronwythal::{MAX_ENTRIES, Refusal, State, entry, look, sha256, signed_part};
 use std::env;
 use std::fs;
 use std::path::{Path, PathBuf};
@@ -17,30 +17,14 @@ const IMAGE: &str = "gate-firmware.img";
 
 // ---- Files
 
-#[derive(Default)]
-struct File {
-    name: String,
-    bytes: Vec<u8>,
-    digest: [u8; ID_SIZE],
-}
-
 /// A file that is on the shelf.
-fn fetch(shelf: &Path, name: &str) -> Option<File> {
-    let bytes = fs::read(shelf.join(name)).ok()?;
-    let digest = crypto::sha256(&bytes);
-    Some(File {
-        name: name.into(),
-        bytes,
-        digest,
-    })
+fn fetch(shelf: &Path, name: &str) -> Option<Vec<u8>> {
+    fs::read(shelf.join(name)).ok()
 }
 
 /// A file that is not there is an empty one: the step refuses it.
-fn fetch_or_empty(shelf: &Path, name: &str) -> File {
-    fetch(shelf, name).unwrap_or_else(|| File {
-        name: name.into(),
-        ..File::default()
-    })
+fn fetch_or_empty(shelf: &Path, name: &str) -> Vec<u8> {
+    fetch(shelf, name).unwrap_or_default()
 }
 
 // ---- Verdicts
@@ -53,20 +37,20 @@ fn verdict(keys: &State, file: &[u8], part: &[u8], place: usize) -> Result<bool,
 }
 
 /// A row for a file. One that cannot be looked into has no entries; the step will say what is wrong with it.
-fn verdicts(keys: &State, file: &File) -> Vec<u8> {
-    let entries = look(&file.bytes).map_or(0, |look| look.entries);
-    let part = signed_part(&file.bytes).unwrap_or_default();
+fn verdicts(keys: &State, file: &[u8]) -> Vec<u8> {
+    let entries = look(file).map_or(0, |look| look.entries);
+    let part = signed_part(file).unwrap_or_default();
     (0..entries)
-        .map(|place| u8::from(verdict(keys, &file.bytes, part, place).unwrap_or(false)))
+        .map(|place| u8::from(verdict(keys, file, part, place).unwrap_or(false)))
         .collect()
 }
 
 /// The keys that a root file itself lists, to check its signatures under: a state that holds the file as if every signature were good.
 /// Nothing may be believed by this state; it is asked for keys and dropped. If the file is refused even so, it holds none, every verdict is
 /// 0, and the true step refuses the file too: true verdicts would be no better than all good ones.
-fn own_keys(file: &File) -> State {
-    let entries = look(&file.bytes).map_or(0, |look| look.entries);
-    State::install(&file.bytes, &[1; MAX_ENTRIES][..entries], 0).unwrap_or_default()
+fn own_keys(file: &[u8]) -> State {
+    let entries = look(file).map_or(0, |look| look.entries);
+    State::install(file, &[1; MAX_ENTRIES][..entries], 0).unwrap_or_default()
 }
 
 // ---- Decisions in words
@@ -96,24 +80,27 @@ fn held(state: &State) -> String {
 
 // ---- The controller: what it keeps, and its steps
 
+/// A step of the state that takes a file and its row.
+type Step = fn(&mut State, &[u8], &[u8]) -> Result<(), Refusal>;
+
 struct Controller {
     shelf: PathBuf,
     state: State,
     /// The targets file that was accepted last.
-    targets: File,
+    targets: Vec<u8>,
 }
 
 impl Controller {
     fn from_factory(shelf: PathBuf, name: &str, clock: i64) -> Result<Controller, Refusal> {
         let file = fetch_or_empty(&shelf, name);
         let row = verdicts(&own_keys(&file), &file);
-        let installed = State::install(&file.bytes, &row, clock);
+        let installed = State::install(&file, &row, clock);
         let answer = installed.as_ref().map(|_| ()).map_err(|refusal| *refusal);
         println!("  {name}: signatures {}: {}", digits(&row), words(answer));
         installed.map(|state| Controller {
             shelf,
             state,
-            targets: File::default(),
+            targets: Vec::new(),
         })
     }
 
@@ -126,7 +113,7 @@ impl Controller {
         };
         let by_held = verdicts(&self.state, &file);
         let by_own = verdicts(&own_keys(&file), &file);
-        let answer = self.state.root(&file.bytes, &by_held, &by_own);
+        let answer = self.state.root(&file, &by_held, &by_own);
         println!(
             "  {name}: signatures {}, under its own keys {}: {}",
             digits(&by_held),
@@ -137,15 +124,11 @@ impl Controller {
     }
 
     /// A file that the held root's keys sign, and the step that takes it.
-    fn offer(
-        &mut self,
-        name: &str,
-        step: fn(&mut State, &File, &[u8]) -> Result<(), Refusal>,
-    ) -> Result<File, Refusal> {
+    fn offer(&mut self, name: &str, step: Step) -> Result<Vec<u8>, Refusal> {
         let file = fetch_or_empty(&self.shelf, name);
         let row = verdicts(&self.state, &file);
         let answer = step(&mut self.state, &file, &row);
-        println!("  {}: signatures {}: {}", file.name, digits(&row), words(answer));
+        println!("  {name}: signatures {}: {}", digits(&row), words(answer));
         answer.map(|()| file)
     }
 
@@ -153,11 +136,11 @@ impl Controller {
     fn image(&self, name: &str) -> Result<(), Refusal> {
         let listed = self
             .state
-            .find(&self.targets.bytes, &self.targets.digest, IMAGE.as_bytes())
+            .find(&self.targets, IMAGE.as_bytes())
             .inspect_err(|refusal| println!("  {IMAGE}: {}", words(Err(*refusal))))?;
         println!("  {IMAGE}: listed with {} bytes", listed.length);
         let fetched = fetch_or_empty(&self.shelf, name);
-        let answer = listed.check(fetched.bytes.len() as u64, &fetched.digest);
+        let answer = listed.check(fetched.len() as u64, &sha256(&fetched));
         println!("  {name}, fetched: {}", words(answer));
         answer
     }
@@ -166,14 +149,10 @@ impl Controller {
     fn update(&mut self, visit: &Visit) -> Result<(), Refusal> {
         self.state.new_cycle(visit.clock);
         while self.next_root() {}
-        match self.offer(visit.timestamp, |state, file, row| state.timestamp(&file.bytes, row)) {
+        match self.offer(visit.timestamp, State::timestamp) {
             Ok(_) => {
-                self.offer(visit.snapshot, |state, file, row| {
-                    state.snapshot(&file.bytes, row, &file.digest)
-                })?;
-                self.targets = self.offer(visit.targets, |state, file, row| {
-                    state.targets(&file.bytes, row, &file.digest)
-                })?;
+                self.offer(visit.snapshot, State::snapshot)?;
+                self.targets = self.offer(visit.targets, State::targets)?;
             }
             Err(Refusal::NoNews) => {}
             Err(refusal) => return Err(refusal),

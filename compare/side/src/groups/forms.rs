@@ -7,15 +7,13 @@ use super::{Recorder, mutants};
 use crate::calls::Call;
 use crate::compare::{Cases, Group};
 use crate::shelf::files::{self, Header, Listed, Role, Root, Snapshot, Targets, Timestamp, keyid};
+use crate::shelf::keyids::mended;
 use crate::shelf::sha256::digest;
 use crate::shelf::tree::Tree;
 
 /// The start time; every valid file expires later.
 const NOW: i64 = 1_000_000_000;
 const LATER: i64 = 2_000_000_000;
-
-/// The digest that is given for every file whose digest is not listed.
-const ANY_DIGEST: [u8; 32] = [7; 32];
 
 /// The groups, one for each file.
 pub fn groups() -> Vec<Group> {
@@ -151,17 +149,22 @@ fn show(kind: Kind, script: &mut Recorder, file: &[u8]) {
             Kind::Root => script.open(offered(Kind::Timestamp, &valid(Kind::Timestamp, 1))),
             Kind::Timestamp => script.open(offered(Kind::Snapshot, &valid(Kind::Snapshot, 1))),
             Kind::Snapshot => script.open(offered(Kind::Targets, &valid(Kind::Targets, 1))),
-            Kind::Targets => script.open(find(file, "image")),
+            Kind::Targets => find_in(script, file),
         };
     }
 }
 
-/// Every edit of the valid file, offered on its stage; each is looked into as well.
+/// Every edit of the valid file, offered on its stage; each is looked into as well. A root whose keys were edited is offered
+/// again with their true keyids.
 fn forms_of(kind: Kind) -> Cases {
     let valid = valid(kind, if kind == Kind::Root { 2 } else { 1 });
     let mut stage = Stage::new(kind);
     let mut script = Recorder::default();
     let files = std::iter::once(valid.clone()).chain(mutants::all(valid));
+    let files = files.flat_map(|file| {
+        let mended = Some(mended(&file)).filter(|mended| *mended != file);
+        std::iter::once(file).chain(mended)
+    });
     Box::new(files.flat_map(move |file| {
         script.open(Call::Look(file.written()));
         if kind == Kind::Root {
@@ -170,27 +173,30 @@ fn forms_of(kind: Kind) -> Cases {
         }
         stage.play(&mut script, &file, None);
         if kind == Kind::Targets {
-            find_in(&mut script, &file);
+            find_in_other(&mut script, &file);
         }
         script.take()
     }))
 }
 
-/// Looks for two images in a file under the digest that is kept of the valid one.
-fn find_in(script: &mut Recorder, file: &Tree) {
+/// Looks for the images in a file, while the valid one is held if this was refused.
+fn find_in_other(script: &mut Recorder, file: &Tree) {
     if script.state().targets.is_none() {
         script.open(offered(Kind::Targets, &valid(Kind::Targets, 1)));
     }
-    for path in ["image", "a\"b\\"] {
-        script.open(find(&file.written(), path));
-    }
+    find_in(script, &file.written());
 }
 
-/// The call that finds a path in a file under the digest that is given for every file.
+/// Looks for both images.
+fn find_in(script: &mut Recorder, file: &[u8]) -> String {
+    script.open(find(file, "a\"b\\"));
+    script.open(find(file, "image"))
+}
+
+/// The call that finds a path in a file.
 pub fn find(file: &[u8], path: &str) -> Call {
     Call::Find {
         file: file.to_vec(),
-        digest: ANY_DIGEST.to_vec(),
         path: path.as_bytes().to_vec(),
     }
 }
@@ -201,14 +207,16 @@ pub fn valid(kind: Kind, version: u64) -> Tree {
         Kind::Root => {
             let mut root = Root::new(version, LATER);
             root.keys.retain(|key, _| [1, 2, 3, 5, 7].contains(key));
+            let with_more = files::KEYS_WITH_MORE.start;
+            root.keys.insert(with_more, with_more);
             root.root = Role::new([2, 1], 1);
             root.timestamp = Role::new([3], 1);
             root.snapshot = Role::new([5], 1);
             root.targets = Role::new([7], 1);
             files::file(root.signed(), &[1, 2])
         }
-        Kind::Timestamp => timestamp(version, whole(&valid(Kind::Snapshot, 1))),
-        Kind::Snapshot => snapshot(version, whole(&valid(Kind::Targets, 1))),
+        Kind::Timestamp => timestamp(version, Listed::whole(1, &valid(Kind::Snapshot, 1).written())),
+        Kind::Snapshot => snapshot(version, Listed::whole(1, &valid(Kind::Targets, 1).written())),
         Kind::Targets => {
             let targets = BTreeMap::from([
                 ("a\"b\\".to_string(), (0, digest(b""))),
@@ -217,14 +225,6 @@ pub fn valid(kind: Kind, version: u64) -> Tree {
             let header = Header::new(version, LATER);
             files::file(Targets { header, targets }.signed(), &[7, 8])
         }
-    }
-}
-
-/// Version 1 of this file, with the digest that is given for every file.
-fn whole(file: &Tree) -> Listed {
-    Listed {
-        sha256: Some(ANY_DIGEST),
-        ..Listed::whole(1, &file.written())
     }
 }
 
@@ -278,7 +278,6 @@ pub fn offered(kind: Kind, file: &Tree) -> Call {
 
 fn offered_bytes(kind: Kind, file: Vec<u8>, entries: usize) -> Call {
     let row = vec![1; entries];
-    let digest = ANY_DIGEST.to_vec();
     match kind {
         Kind::Root => Call::Root {
             file,
@@ -286,7 +285,7 @@ fn offered_bytes(kind: Kind, file: Vec<u8>, entries: usize) -> Call {
             own_row: row,
         },
         Kind::Timestamp => Call::Timestamp { file, row },
-        Kind::Snapshot => Call::Snapshot { file, row, digest },
-        Kind::Targets => Call::Targets { file, row, digest },
+        Kind::Snapshot => Call::Snapshot { file, row },
+        Kind::Targets => Call::Targets { file, row },
     }
 }

@@ -8,6 +8,7 @@ use super::forms::{self, Kind, Stage, valid};
 use crate::calls::Call;
 use crate::compare::{Cases, Group};
 use crate::shelf::files::{self, HIGHEST_VERSION, Header, LONGEST, Listed, Role, Root, Snapshot, Targets};
+use crate::shelf::keyids::mended;
 use crate::shelf::sha256::digest;
 use crate::shelf::tree::{Tree, number, object};
 
@@ -172,12 +173,15 @@ fn keys(script: &mut Recorder) {
         }
     });
     tried(script, Kind::Root, &one, ACCEPTED);
-    for (key, value) in [(1, 2), (2, 1), (1, 8), (8, 1), (7, 8), (16, 15), (16, 1)] {
-        let file = root(|root| {
-            root.keys = (1..=16).map(|key| (key, key)).collect();
-            root.keys.insert(key, value);
-        });
+    // One public value under two keyids: the keys differ in an unknown member, and so both keyids may be true.
+    for (one, other) in [(1, 2), (2, 1), (1, 8), (8, 1), (7, 8), (16, 15), (16, 1)] {
+        let mut file = root(|root| root.keys = (1..=16).map(|key| (key, key)).collect());
+        let key = file.member(&["signed", "keys", files::keyid(one)]);
+        *key = files::key(other).tree.clone();
         tried(script, Kind::Root, &file, BROKEN);
+        file.member(&["signed", "keys", files::keyid(one)])
+            .insert("~", number(0));
+        tried(script, Kind::Root, &mended(&file), BROKEN);
     }
 }
 

@@ -2,9 +2,11 @@
 
 pub mod damage;
 mod dates;
+mod digests;
 mod forms;
 pub mod histories;
 mod images;
+mod keyids;
 mod keys;
 mod limits;
 mod lines;
@@ -36,6 +38,7 @@ pub const COMPARED: &[&str] = &[
     "targets",
     "find",
     "image",
+    "sha256",
     "state",
 ];
 
@@ -48,8 +51,10 @@ pub fn all() -> Vec<Group> {
         looks::groups(),
         keys::groups(),
         images::groups(),
+        digests::groups(),
         forms::groups(),
         limits::groups(),
+        keyids::groups(),
         named::groups(),
         published::groups(),
         signed::groups(),

@@ -126,35 +126,23 @@ impl Shelf {
     }
 
     fn snapshot(&mut self, version: u64, names: &[(&str, u64)], answer: &str) {
-        let file = snapshot_file(version, LATER, names);
-        let digest = digest(&file);
-        self.snapshot_with(file, &digest, answer);
+        self.snapshot_with(snapshot_file(version, LATER, names), &[1], answer);
     }
 
-    fn snapshot_with(&mut self, file: Vec<u8>, digest: &[u8], answer: &str) {
-        let digest = digest.to_vec();
-        let call = Call::Snapshot {
-            file,
-            row: vec![1],
-            digest,
-        };
-        self.script.stated(call, format!("snapshot {answer}"));
+    fn snapshot_with(&mut self, file: Vec<u8>, row: &[u8], answer: &str) {
+        let row = row.to_vec();
+        self.script
+            .stated(Call::Snapshot { file, row }, format!("snapshot {answer}"));
     }
 
     fn targets(&mut self, version: u64, answer: &str) {
-        let file = targets_file(version, LATER);
-        let digest = digest(&file);
-        self.targets_with(file, &digest, answer);
+        self.targets_with(targets_file(version, LATER), &[1], answer);
     }
 
-    fn targets_with(&mut self, file: Vec<u8>, digest: &[u8], answer: &str) {
-        let digest = digest.to_vec();
-        let call = Call::Targets {
-            file,
-            row: vec![1],
-            digest,
-        };
-        self.script.stated(call, format!("targets {answer}"));
+    fn targets_with(&mut self, file: Vec<u8>, row: &[u8], answer: &str) {
+        let row = row.to_vec();
+        self.script
+            .stated(Call::Targets { file, row }, format!("targets {answer}"));
     }
 
     /// Finds a path in targets 7, or in that of another version.
@@ -163,18 +151,12 @@ impl Shelf {
     }
 
     fn find_in(&mut self, version: u64, path: &[u8], answer: &str) {
-        let file = targets_file(version, LATER);
-        let digest = digest(&file);
-        self.find_with(file, &digest, path, answer);
+        self.find_with(targets_file(version, LATER), path, answer);
     }
 
-    fn find_with(&mut self, file: Vec<u8>, digest: &[u8], path: &[u8], answer: &str) {
-        let call = Call::Find {
-            file,
-            digest: digest.to_vec(),
-            path: path.to_vec(),
-        };
-        self.script.stated(call, format!("find {answer}"));
+    fn find_with(&mut self, file: Vec<u8>, path: &[u8], answer: &str) {
+        let path = path.to_vec();
+        self.script.stated(Call::Find { file, path }, format!("find {answer}"));
     }
 
     fn key(&mut self, key: usize, answer: &str) {
@@ -195,12 +177,16 @@ fn snapshot_file(version: u64, expires: i64, names: &[(&str, u64)]) -> Vec<u8> {
 }
 
 fn targets_file(version: u64, expires: i64) -> Vec<u8> {
+    targets_signed_by(version, expires, &[7])
+}
+
+fn targets_signed_by(version: u64, expires: i64, keys: &[usize]) -> Vec<u8> {
     let targets = BTreeMap::from([
         ("a\"b\\".to_string(), (4_294_967_295, image_digest())),
         ("image".to_string(), (0, image_digest())),
     ]);
     let header = Header::new(version, expires);
-    files::file(Targets { header, targets }.signed(), &[7]).written()
+    files::file(Targets { header, targets }.signed(), keys).written()
 }
 
 fn image_digest() -> Digest {
@@ -264,7 +250,7 @@ fn expires_1000(shelf: &mut Shelf) {
         shelf.timestamp(1, 1, "0");
         shelf.cycle(start);
         let file = snapshot_file(1, 1000, &[("targets.json", 7)]);
-        shelf.snapshot_with(file, &[0; 32], snapshot);
+        shelf.snapshot_with(file, &[1], snapshot);
         shelf.targets(7, targets);
     }
     // Every record that is leaned on, one second before it expires and when it does.
@@ -279,15 +265,15 @@ fn expires_1000(shelf: &mut Shelf) {
             "0",
         );
         let snapshot = snapshot_file(1, expires("snapshot"), &[("targets.json", 7)]);
-        shelf.snapshot_with(snapshot, &[0; 32], "0");
+        shelf.snapshot_with(snapshot, &[1], "0");
         let targets = targets_file(7, expires("targets"));
-        shelf.targets_with(targets.clone(), &[7; 32], "0");
+        shelf.targets_with(targets.clone(), &[1], "0");
         shelf.cycle(999);
-        shelf.find_with(targets.clone(), &[7; 32], b"image", "0 0");
+        shelf.find_with(targets.clone(), b"image", "0 0");
         shelf.cycle(1000);
-        shelf.find_with(targets.clone(), &[7; 32], b"image", "7 0");
+        shelf.find_with(targets.clone(), b"image", "7 0");
         shelf.cycle(999);
-        shelf.find_with(targets, &[7; 32], b"image", "0 0");
+        shelf.find_with(targets, b"image", "0 0");
     }
 }
 
@@ -316,14 +302,12 @@ fn empty_targets_list(shelf: &mut Shelf) {
         targets: BTreeMap::new(),
     };
     let file = files::file(targets.signed(), &[7]).written();
-    let kept = digest(&file);
-    shelf.targets_with(file.clone(), &kept, "0");
-    shelf.find_with(file.clone(), &kept, b"image", "15 0");
-    shelf.find_with(file.clone(), &kept, b"", "15 0");
-    shelf.find_with(file.clone(), &[0; 32], b"image", "8 0");
-    shelf.find_with(file.clone(), &kept[..31], b"image", "5 0");
+    shelf.targets_with(file.clone(), &[1], "0");
+    shelf.find_with(file.clone(), b"image", "15 0");
+    shelf.find_with(file.clone(), b"", "15 0");
+    shelf.find_in(1, b"image", "8 0");
     shelf.cycle(LATER);
-    shelf.find_with(file, &kept, b"image", "7 0");
+    shelf.find_with(file, b"image", "7 0");
 }
 
 fn thinly_signed_and_expired(shelf: &mut Shelf) {
@@ -406,7 +390,7 @@ fn names_with_their_escapes_or_closing_quote(shelf: &mut Shelf) {
         r#""a":{"version":2},"a!":{"version":2}"#,
         r#""a!":{"version":2},"a":{"version":2}"#,
     );
-    shelf.snapshot_with(misplaced.into_bytes(), &[0; 32], "2");
+    shelf.snapshot_with(misplaced.into_bytes(), &[1], "2");
 }
 
 fn skipping_roots(shelf: &mut Shelf) {
@@ -463,12 +447,11 @@ fn blank_state(shelf: &mut Shelf) {
         shelf.root(&root, &[1], &[1], &[], &five);
         shelf.timestamp(1, 1, &six);
         shelf.snapshot(1, &[("targets.json", 1)], &six);
-        shelf.snapshot_with(snapshot_file(1, LATER, &[("targets.json", 1)]), &[0; 33], &five);
+        shelf.snapshot_with(snapshot_file(1, LATER, &[("targets.json", 1)]), &[2], &five);
         shelf.targets(7, &six);
         shelf.targets_with(targets_file(7, LATER), &[], &five);
         shelf.find(b"image", "6 0");
-        shelf.find_with(targets_file(7, LATER), &[0; 31], b"image", "5 0");
-        shelf.find_with(b"{}".to_vec(), &[0; 31], b"image", "3 0");
+        shelf.find_with(b"{}".to_vec(), b"image", "3 0");
         shelf.key(1, "6");
         shelf.script.stated(Call::Key(b"?".to_vec()), "key 6");
         shelf.script.stated(Call::State, format!("state {blank} time={time}"));
@@ -520,7 +503,7 @@ fn rotations(shelf: &mut Shelf) {
     let none = "timestamp=- snapshot=- targets=-";
     let without_targets = "timestamp=3 snapshot=5 targets=-";
     type Change = fn(&mut Root);
-    let changes: [(Change, &str); 14] = [
+    let changes: [(Change, &str); 13] = [
         (|_| (), all),
         (|root| root.root = Role::new([2, 6], 2), all),
         (|root| root.timestamp.keys = vec![3], none),
@@ -538,8 +521,6 @@ fn rotations(shelf: &mut Shelf) {
             },
             none,
         ),
-        // A keyid whose public value changes is no rotation.
-        (|root| root.keys.extend([(3, 33)]), all),
         (|root| root.keys.extend([(16, 16)]), all),
         (|root| root.consistent_snapshot = true, all),
     ];
@@ -549,6 +530,11 @@ fn rotations(shelf: &mut Shelf) {
         change(&mut root);
         shelf.root(&root, &[1, 2, 6], &[1, 0, 0], &[0, 1, 1], &format!("0 root=2 {held}"));
     }
+    // Another key under a keyid that was there is no rotation: it is refused.
+    shelf.complete();
+    let mut root = Root::new(2, LATER);
+    root.keys.insert(3, 33);
+    shelf.root(&root, &[1, 2], &[1, 1], &[1, 1], &format!("16 root=1 {all}"));
     // The keys 3, then 4, then 3 again: each is a rotation. After it lower versions are taken.
     shelf.complete();
     for (version, key) in [(2, 4), (3, 3)] {
@@ -625,33 +611,43 @@ fn current_records(shelf: &mut Shelf) {
     shelf.timestamp(6, 7, "0");
     shelf.snapshot(7, &[("a", 9), ("targets.json", 8)], "0");
     shelf.find_in(8, b"image", "0 0");
-    // Another file under the kept digest: it is the one given that is looked into.
-    let kept = digest(&targets_file(8, LATER));
-    shelf.find_with(targets_file(3, LATER), &kept, b"image", "0 0");
+    // It is the whole file that is digested: with another entry, or another member beside the signed part, it is another one.
+    shelf.find_with(targets_signed_by(8, LATER, &[8]), b"image", "8 0");
+    shelf.find_with(targets_signed_by(8, LATER, &[7, 8]), b"image", "8 0");
+    shelf.find_with(with_more(targets_file(8, LATER)), b"image", "8 0");
+}
+
+/// The same bytes, but for an unknown member that is put behind the signed part.
+fn with_more(file: Vec<u8>) -> Vec<u8> {
+    [&file[..file.len() - 1], br#","~":0}"#].concat()
 }
 
 fn lowest_number(shelf: &mut Shelf) {
-    let listed = |file: &[u8], version| Listed::whole(version, file);
-    let sound = snapshot_file(2, LATER, &[("targets.json", 1)]);
+    // Snapshot 2 is listed; what is offered is version 1 and has expired.
+    let expired = |version| snapshot_file(version, NOW, &[("targets.json", 1)]);
+    let mut listed = Listed::whole(2, &expired(1));
     shelf.begin();
-    shelf.timestamp_with(Header::new(1, LATER), listed(&sound, 2), &[3], &[1], "0");
-    // The digest is another, no key signs, the version is another and it has expired: 8.
-    let other = snapshot_file(1, NOW, &[("targets.json", 1)]);
-    for (row, sha256, answer) in [
-        (vec![0], digest(&other).to_vec(), "8"),
-        (vec![0], digest(&sound).to_vec(), "9"),
-        (vec![1], digest(&sound).to_vec(), "11"),
-        (vec![2], digest(&sound).to_vec(), "5"),
-        (vec![0], vec![0; 31], "5"),
+    shelf.timestamp_with(Header::new(1, LATER), listed.clone(), &[3], &[1], "0");
+    for (file, row, answer) in [
+        // Another file of the same length, also with no key that signs.
+        (snapshot_file(1, NOW + 1, &[("targets.json", 1)]), 0, "8"),
+        (expired(2), 1, "8"),
+        (with_more(expired(1)), 1, "8"),
+        (expired(1), 0, "9"),
+        (expired(1), 1, "11"),
+        (expired(1), 2, "5"),
     ] {
-        let call = Call::Snapshot {
-            file: other.clone(),
-            row,
-            digest: sha256,
-        };
-        shelf.script.stated(call, format!("snapshot {answer}"));
+        shelf.snapshot_with(file, &[row], answer);
     }
-    shelf.snapshot_with(sound.clone(), &digest(&sound), "0");
+    listed.length = Some(expired(1).len() as u64 + 1);
+    shelf.timestamp_with(Header::new(2, LATER), listed, &[3], &[1], "0");
+    shelf.snapshot_with(expired(1), &[0], "8");
+
+    let sound = snapshot_file(2, LATER, &[("targets.json", 1)]);
+    shelf.timestamp_with(Header::new(3, LATER), Listed::whole(2, &expired(2)), &[3], &[1], "0");
+    shelf.snapshot_with(expired(2), &[1], "14");
+    shelf.timestamp_with(Header::new(4, LATER), Listed::whole(2, &sound), &[3], &[1], "0");
+    shelf.snapshot_with(sound.clone(), &[1], "0");
     shelf.cycle(LATER);
-    shelf.snapshot_with(sound, &[0; 32], "7");
+    shelf.snapshot_with(sound, &[0], "7");
 }

@@ -31,11 +31,12 @@ pub fn groups() -> Vec<Group> {
             "targets",
             "find",
             "image",
+            "sha256",
             "state",
         ],
         cases: |_| all_of(SCRIPTS.into_iter().flat_map(calls).map(case).collect()),
         least: 110,
-        shares: &[("install 0", 1), ("targets 0", 1), ("find 0", 2)],
+        shares: &[("install 0", 1), ("targets 0", 1), ("find 0", 2), ("sha256", 5)],
         complete: &[],
         renewed: false,
     }]
@@ -59,33 +60,64 @@ mod tests {
     use super::{SCRIPTS, calls};
     use crate::canonical::{canonical, list};
     use crate::folder;
-    use crate::shelf::sha256::digest;
-    use paper::hex;
+    use crate::shelf::keyids::{keyid_of, renamed, true_keyids};
+    use crate::shelf::tree::Tree;
+    use std::collections::BTreeSet;
     use std::fs;
+
+    const ROLES: [&str; 4] = ["root", "timestamp", "snapshot", "targets"];
 
     fn content(name: &str) -> Vec<u8> {
         let path = folder().join(name);
         fs::read(&path).unwrap_or_else(|error| panic!("{}: {error}", path.display()))
     }
 
+    fn printed(document: &str, role: &str) -> Tree {
+        let printed = String::from_utf8(content(&format!("{document}-{role}.printed"))).unwrap();
+        let (file, _) = canonical(&printed).unwrap();
+        file
+    }
+
     #[test]
     fn the_files_are_the_canonical_form_of_the_printed_ones() {
         for document in ["000", "003"] {
-            for role in ["root", "timestamp", "snapshot", "targets"] {
-                let printed = String::from_utf8(content(&format!("{document}-{role}.printed"))).unwrap();
-                let (mut file, _) = canonical(&printed).unwrap();
-                assert_eq!(content(&format!("{document}-{role}.json")), file.written());
-                if role == "timestamp" {
-                    list(
-                        &mut file,
-                        "snapshot.json",
-                        &content(&format!("{document}-snapshot.json")),
-                    )
-                    .unwrap();
-                    assert_eq!(content(&format!("{document}-timestamp-fitting.json")), file.written());
-                }
+            for role in ROLES {
+                let file = printed(document, role).written();
+                assert_eq!(content(&format!("{document}-{role}.json")), file);
             }
         }
+    }
+
+    #[test]
+    fn the_fitting_files_differ_from_the_printed_ones_in_keyids_and_what_is_listed_alone() {
+        let mut timestamp = printed("003", "timestamp");
+        list(&mut timestamp, "snapshot.json", &content("003-snapshot.json")).unwrap();
+        assert_eq!(content("003-timestamp-fitting.json"), timestamp.written());
+
+        let true_keyids = true_keyids(&printed("000", "root"));
+        for role in ROLES {
+            let mut file = renamed(&printed("000", role), &true_keyids);
+            if role == "timestamp" {
+                list(&mut file, "snapshot.json", &content("000-snapshot-fitting.json")).unwrap();
+            }
+            assert_eq!(content(&format!("000-{role}-fitting.json")), file.written());
+        }
+    }
+
+    #[test]
+    fn printed_keyids_are_true_in_003_and_without_the_scheme_in_000() {
+        let mut keyids = BTreeSet::new();
+        for document in ["000", "003"] {
+            let mut root = printed(document, "root");
+            for (keyid, mut key) in root.member(&["signed", "keys"]).members().clone() {
+                keyids.insert(keyid_of(&key));
+                if document == "000" {
+                    key.members().retain(|member| member.0 != "scheme");
+                }
+                assert_eq!(keyid, keyid_of(&key));
+            }
+        }
+        assert_eq!(keyids.len(), 4, "both documents print the same four keys");
     }
 
     #[test]
@@ -93,22 +125,6 @@ mod tests {
         for script in SCRIPTS {
             let lines = script.lines().filter(|line| !line.is_empty() && !line.starts_with('#'));
             assert_eq!(lines.count(), calls(script).count());
-        }
-    }
-
-    #[test]
-    fn digests_are_those_of_the_files() {
-        for (line, stated) in SCRIPTS.into_iter().flat_map(calls) {
-            let words: Vec<&str> = line.split(' ').collect();
-            let given = match words[..] {
-                ["snapshot" | "targets", file, _, digest] => Some((file, digest)),
-                ["find", file, digest, _] => Some((file, digest)),
-                _ => None,
-            };
-            if let Some((file, given)) = given {
-                let is_right = hex::written(&digest(&content(&file[1..]))) == given;
-                assert!(is_right || stated.split(' ').nth(1) == Some("8"), "{line}");
-            }
         }
     }
 }

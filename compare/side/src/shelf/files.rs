@@ -6,6 +6,7 @@ use std::sync::LazyLock;
 use paper::hex;
 
 use super::dates;
+use super::keyids::keyid_of;
 use super::sha256::{Digest, digest};
 use super::tree::{Tree, number, object, text};
 
@@ -18,21 +19,78 @@ pub const LONGEST: usize = 32_768;
 /// How many keys there are.
 pub const KEYS: usize = 1_000;
 
-/// Keyid and public value of each key.
-static KEY_TEXTS: LazyLock<Vec<(String, String)>> = LazyLock::new(|| {
-    let hash = |text: String| hex::written(&digest(text.as_bytes()));
-    let texts = |key| (hash(format!("key {key}")), hash(format!("public value {key}")));
-    (0..KEYS).map(texts).collect()
+/// The keys among them that have members which no form names.
+pub const KEYS_WITH_MORE: std::ops::Range<usize> = 500..600;
+
+/// A key, and its true keyid.
+#[derive(Clone, Debug, PartialEq, Eq)]
+pub struct Key {
+    /// The digest of its text, in hex.
+    pub keyid: String,
+    /// Its public value, in hex.
+    pub public: String,
+    /// The key itself.
+    pub tree: Tree,
+}
+
+impl Key {
+    /// A key that has what the form asks for.
+    pub fn new(public: String) -> Key {
+        Key::of(public, |_| ())
+    }
+
+    /// A key that has something more.
+    fn of(public: String, add_more: impl FnOnce(&mut Tree)) -> Key {
+        let mut tree = object([
+            ("keytype", text("ed25519")),
+            ("keyval", object([("public", text(&*public))])),
+            ("scheme", text("ed25519")),
+        ]);
+        add_more(&mut tree);
+        let keyid = keyid_of(&tree);
+        Key { keyid, public, tree }
+    }
+}
+
+/// All keys by number.
+static KEY_LIST: LazyLock<Vec<Key>> = LazyLock::new(|| {
+    let key = |number: usize| {
+        let public = hex::written(&digest(format!("public value {number}").as_bytes()));
+        match KEYS_WITH_MORE.contains(&number) {
+            true => Key::of(public, |key| add_more(key, number)),
+            false => Key::new(public),
+        }
+    };
+    (0..KEYS).map(key).collect()
 });
 
+/// Members that keys of older publishers have, and others that none has.
+fn add_more(key: &mut Tree, number: usize) {
+    let algorithms = || Tree::Array(vec![text("sha256"), text("sha512")]);
+    match number % 4 {
+        0 => key.insert("keyid_hash_algorithms", algorithms()),
+        1 => key.member(&["keyval"]).insert("private", text("")),
+        2 => key.insert("", object([("\"\\", Tree::Array(vec![object([("a", algorithms())])]))])),
+        _ => {
+            key.insert("~", Tree::Raw("-1".to_string()));
+            key.member(&["keyval"]).insert("a", Tree::Raw("null".to_string()));
+        }
+    }
+}
+
+/// The key with this number.
+pub fn key(number: usize) -> &'static Key {
+    &KEY_LIST[number]
+}
+
 /// The keyid of the key with this number.
-pub fn keyid(key: usize) -> &'static str {
-    &KEY_TEXTS[key].0
+pub fn keyid(number: usize) -> &'static str {
+    &key(number).keyid
 }
 
 /// The public value of the key with this number.
-pub fn public(key: usize) -> &'static str {
-    &KEY_TEXTS[key].1
+pub fn public(number: usize) -> &'static str {
+    &key(number).public
 }
 
 /// Who signs for a role.
@@ -94,7 +152,8 @@ pub struct Root {
     pub header: Header,
     /// Used by nobody yet.
     pub consistent_snapshot: bool,
-    /// The key table: the number of a key, and that of the key whose public value it has.
+    /// The key table: the number of the key whose keyid stands there, and that of the key which stands under it. They are the
+    /// same, unless the keyid is to be a wrong one.
     pub keys: BTreeMap<usize, usize>,
     /// Who signs roots.
     pub root: Role,
@@ -122,6 +181,15 @@ impl Root {
 
     /// The signed part.
     pub fn signed(&self) -> Tree {
+        self.signed_with(key)
+    }
+
+    /// The signed part with other keys; they are asked for by number.
+    pub fn signed_with<'k>(&self, key: impl Fn(usize) -> &'k Key) -> Tree {
+        let keys = self
+            .keys
+            .iter()
+            .map(|(name, value)| (&*key(*name).keyid, key(*value).tree.clone()));
         let roles = [
             ("root", &self.root),
             ("snapshot", &self.snapshot),
@@ -132,26 +200,15 @@ impl Root {
             "root",
             [
                 ("consistent_snapshot", Tree::Raw(self.consistent_snapshot.to_string())),
-                (
-                    "keys",
-                    object(self.keys.iter().map(|(key, value)| (keyid(*key), key_tree(*value)))),
-                ),
-                ("roles", object(roles.map(|(name, role)| (name, role_tree(role))))),
+                ("keys", object(keys)),
+                ("roles", object(roles.map(|(name, role)| (name, role_tree(role, &key))))),
             ],
         )
     }
 }
 
-fn key_tree(value: usize) -> Tree {
-    object([
-        ("keytype", text("ed25519")),
-        ("keyval", object([("public", text(public(value)))])),
-        ("scheme", text("ed25519")),
-    ])
-}
-
-fn role_tree(role: &Role) -> Tree {
-    let keyids = role.keys.iter().map(|key| text(keyid(*key))).collect();
+fn role_tree<'k>(role: &Role, key: impl Fn(usize) -> &'k Key) -> Tree {
+    let keyids = role.keys.iter().map(|number| text(&*key(*number).keyid)).collect();
     object([("keyids", Tree::Array(keyids)), ("threshold", number(role.threshold))])
 }
 
@@ -288,7 +345,10 @@ pub fn padded(file: &Tree, length: usize, in_signed: bool) -> Vec<u8> {
 
 #[cfg(test)]
 mod tests {
-    use super::{Header, Listed, Root, Snapshot, Targets, Timestamp, digest, file, padded};
+    use super::{
+        Header, KEYS_WITH_MORE, Key, Listed, Root, Snapshot, Targets, Timestamp, digest, file, key, keyid, padded,
+        public,
+    };
     use paper::forms;
     use std::collections::BTreeMap;
 
@@ -322,6 +382,17 @@ mod tests {
         )
         .written();
         assert_eq!(forms::targets(&targets).unwrap().says.targets["a\"\\"].length, 5);
+    }
+
+    #[test]
+    fn keys_with_more_members_have_true_keyids_too() {
+        let mut root = Root::new(1, 0);
+        root.keys.extend(KEYS_WITH_MORE.take(8).map(|key| (key, key)));
+        let says = forms::root(&file(root.signed(), &[1]).written()).unwrap().says;
+        for number in KEYS_WITH_MORE.take(8) {
+            assert_eq!(says.keys[keyid(number)], public(number));
+            assert_ne!(key(number).tree, Key::new(public(number).to_string()).tree);
+        }
     }
 
     #[test]

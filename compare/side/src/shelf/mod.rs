@@ -2,6 +2,7 @@
 
 pub mod dates;
 pub mod files;
+pub mod keyids;
 pub mod sha256;
 pub mod signer;
 pub mod tree;

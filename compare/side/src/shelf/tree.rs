@@ -1,6 +1,8 @@
 //! A text before it is written. Nothing keeps the names of a tree in order or apart: it can be a text that is not
 //! canonical.
 
+use paper::json::{self, Value};
+
 use crate::groups::names::escaped;
 
 /// A value.
@@ -37,6 +39,20 @@ pub fn object<N: Into<String>>(members: impl IntoIterator<Item = (N, Tree)>) -> 
 }
 
 impl Tree {
+    /// The tree of a canonical text.
+    pub fn read(text: &[u8]) -> Option<Tree> {
+        json::parse(text).ok().map(|value| Tree::of(&value))
+    }
+
+    fn of(value: &Value) -> Tree {
+        match value {
+            Value::String(string) => text(&**string),
+            Value::Array(items) => Tree::Array(items.iter().map(Tree::of).collect()),
+            Value::Object(members) => object(members.iter().map(|(name, value)| (&**name, Tree::of(value)))),
+            Value::Null | Value::Bool(_) | Value::Number(_) => Tree::Raw(value.written()),
+        }
+    }
+
     /// The text.
     pub fn written(&self) -> Vec<u8> {
         let mut written = String::new();
@@ -84,6 +100,14 @@ impl Tree {
                 Tree::Object(members) => members[*number].1.at(rest),
                 _ => panic!("nothing is inside of a string, number or word"),
             },
+        }
+    }
+
+    /// The member with this name, if it is an object that has one.
+    pub fn get(&self, name: &str) -> Option<&Tree> {
+        match self {
+            Tree::Object(members) => members.iter().find(|member| member.0 == name).map(|(_, tree)| tree),
+            _ => None,
         }
     }
 
@@ -151,6 +175,8 @@ mod tests {
             ("a", Tree::Raw("null".to_string())),
         ]);
         assert_eq!(tree.written(), br#"{"a":null,"b":[1,"\"\\"]}"#);
+        assert_eq!(Tree::read(&tree.written()), Some(tree));
+        assert_eq!(Tree::read(b"{ }"), None);
     }
 
     #[test]

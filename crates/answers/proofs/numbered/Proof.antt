@@ -1,4 +1,4 @@
--- `numbered` meets its contract: no number from 0 to 14 is left for its last line.
+-- `numbered` meets its contract: no number from 0 to 15 is left for its last line.
 use Prim.Native.Nat.{_≤_}
 use native.Mathlib.Omega.{arith}
 use borrow.Author.Needs.{needs}
@@ -51,13 +51,16 @@ returns-15 : tie.Need-returns-15
 returns-15 c = search needs
 
 returns-16 : tie.Need-returns-16
-returns-16 c =
+returns-16 c = search needs
+
+returns-17 : tie.Need-returns-17
+returns-17 c =
     let n = c .before .args .n in
     let z = c .match .rest in
-    let h5 : 5 ≤ n = omega (arith, (z .0 .0 .0 .0 .0 .0 .0 .0 .0 .0 .0 .0 .0 .0 .1), (z .0 .0 .0 .0 .0 .0 .0 .0 .0 .0 .0 .0 .0 .1), (z .0 .0 .0 .0 .0 .0 .0 .0 .0 .0 .0 .0 .1), (z .0 .0 .0 .0 .0 .0 .0 .0 .0 .0 .0 .1), (z .0 .0 .0 .0 .0 .0 .0 .0 .0 .0 .1)) in
-    let h10 : 10 ≤ n = omega (arith, h5, (z .0 .0 .0 .0 .0 .0 .0 .0 .0 .1), (z .0 .0 .0 .0 .0 .0 .0 .0 .1), (z .0 .0 .0 .0 .0 .0 .0 .1), (z .0 .0 .0 .0 .0 .0 .1), (z .0 .0 .0 .0 .0 .1)) in
-    let h15 : 15 ≤ n = omega (arith, h10, (z .0 .0 .0 .0 .1), (z .0 .0 .0 .1), (z .0 .0 .1), (z .0 .1), (z .1)) in
-    omega (arith, h15)
+    let h5 : 5 ≤ n = omega (arith, (z .0 .0 .0 .0 .0 .0 .0 .0 .0 .0 .0 .0 .0 .0 .0 .1), (z .0 .0 .0 .0 .0 .0 .0 .0 .0 .0 .0 .0 .0 .0 .1), (z .0 .0 .0 .0 .0 .0 .0 .0 .0 .0 .0 .0 .0 .1), (z .0 .0 .0 .0 .0 .0 .0 .0 .0 .0 .0 .0 .1), (z .0 .0 .0 .0 .0 .0 .0 .0 .0 .0 .0 .1)) in
+    let h10 : 10 ≤ n = omega (arith, h5, (z .0 .0 .0 .0 .0 .0 .0 .0 .0 .0 .1), (z .0 .0 .0 .0 .0 .0 .0 .0 .0 .1), (z .0 .0 .0 .0 .0 .0 .0 .0 .1), (z .0 .0 .0 .0 .0 .0 .0 .1), (z .0 .0 .0 .0 .0 .0 .1)) in
+    let h16 : 16 ≤ n = omega (arith, h10, (z .0 .0 .0 .0 .0 .1), (z .0 .0 .0 .0 .1), (z .0 .0 .0 .1), (z .0 .0 .1), (z .0 .1), (z .1)) in
+    omega (arith, h16)
 
 pub numbered-spec : {M : Type 1} → statement M
 numbered-spec =
@@ -78,4 +81,5 @@ numbered-spec =
     returns-13
     returns-14
     returns-15
-    returns-16)
+    returns-16
+    returns-17)

@@ -1,11 +1,12 @@
 -- `read_snapshot` meets its contract.
 use borrow.Author.Needs.{needs}
+use mathlib.Core.Bool.{true}
 use mathlib.Core.Path.{refl}
 use borrow.Author.Tests.{not-true, not-false}
 use Rattle.envelope.specs.Header.{viewHeader}
 use Rattle.envelope.proofs.RoleLaws.{role-refused, role-broken, role-headless, role-other, role-says}
 use Rattle.rules.specs.Forms.{snapshot}
-use Rattle.rules.specs.Reading.{readSnapshot}
+use Rattle.rules.specs.Reading.{noTable, readSnapshot}
 use Rattle.rules.specs.State.{keepSnapshot, snapshotIn}
 use Rattle.records.specs.View.{viewSnapshot}
 use Rattle.snapshot_file.specs.View.{viewNamesAt, viewSnapshotRead}
@@ -21,7 +22,7 @@ refused-requires c κs = search needs
 returns : tie.Need-returns
 unfolding snapshotIn readSnapshot snapshot viewSnapshotRead
 returns c =
-    role-refused _ _ keepSnapshot (c .before .before .before .before .before .args .file .now) (c .before .before .before .open-envelope .result) (c .before .before .before .open-envelope .ensures) _ _ _ (c .before .if1 .taken) (c .refused .ensures)
+    role-refused _ _ noTable keepSnapshot (c .before .before .before .before .before .args .file .now) (c .before .before .before .open-envelope .result) (c .before .before .before .open-envelope .ensures) _ _ _ (c .before .if1 .taken) (c .refused .ensures)
 
 slice-aggregate-find-member : tie.Need-slice-aggregate-find-member
 slice-aggregate-find-member c = search needs
@@ -38,7 +39,7 @@ refused-requires-2 c κs = search needs
 returns-2 : tie.Need-returns-2
 unfolding snapshotIn readSnapshot snapshot viewSnapshotRead viewNamesAt
 returns-2 c =
-    role-broken _ _ keepSnapshot (c .before .before .before .before .before .before .before .before .before .before .args .file .now) (c .before .before .before .before .before .before .before .before .open-envelope .result) (c .before .before .before .before .before .before .before .before .open-envelope .ensures) _ _ _ (c .before .before .before .before .before .before .if1 .left) _ _ (c .before .before .before .meta-names .ensures .0 _ _ (c .before .before .before .before .find-member .ensures .means)) (not-true _ (c .before .if2 .taken)) (c .refused2 .ensures)
+    role-broken _ _ noTable keepSnapshot (c .before .before .before .before .before .before .before .before .before .before .args .file .now) (c .before .before .before .before .before .before .before .before .open-envelope .result) (c .before .before .before .before .before .before .before .before .open-envelope .ensures) _ _ _ (c .before .before .before .before .before .before .if1 .left) _ _ (c .before .before .before .meta-names .ensures .0 _ _ (c .before .before .before .before .find-member .ensures .means)) (not-true _ (c .before .if2 .taken)) (c .refused2 .ensures)
 
 slice-aggregate-header-at : tie.Need-slice-aggregate-header-at
 slice-aggregate-header-at c = search needs
@@ -55,7 +56,7 @@ refused-requires-3 c κs = search needs
 returns-3 : tie.Need-returns-3
 unfolding snapshotIn readSnapshot snapshot viewSnapshotRead viewNamesAt viewHeader
 returns-3 c =
-    role-headless _ _ keepSnapshot (c .before .before .before .before .before .before .before .before .before .before .before .before .before .before .before .args .file .now) (c .before .before .before .before .before .before .before .before .before .before .before .before .before .open-envelope .result) (c .before .before .before .before .before .before .before .before .before .before .before .before .before .open-envelope .ensures) _ _ _ (c .before .before .before .before .before .before .before .before .before .before .before .if1 .left) _ _ (c .before .before .before .before .before .before .before .before .meta-names .ensures .0 _ _ (c .before .before .before .before .before .before .before .before .before .find-member .ensures .means))
+    role-headless _ _ noTable keepSnapshot (c .before .before .before .before .before .before .before .before .before .before .before .before .before .before .before .args .file .now) (c .before .before .before .before .before .before .before .before .before .before .before .before .before .open-envelope .result) (c .before .before .before .before .before .before .before .before .before .before .before .before .before .open-envelope .ensures) _ _ _ (c .before .before .before .before .before .before .before .before .before .before .before .if1 .left) _ _ (c .before .before .before .before .before .before .before .before .meta-names .ensures .0 _ _ (c .before .before .before .before .before .before .before .before .before .find-member .ensures .means))
     _ _ (c .before .before .before .header-at .ensures (c .before .before .before .before .extent-of .ensures _ (c .before .before .before .before .before .before .before .before .meta-names .ensures .1))) (not-true _ (c .before .if3 .taken)) (c .refused3 .ensures)
 
 refused-requires-4 : tie.Need-refused-requires-4
@@ -64,14 +65,14 @@ refused-requires-4 c κs = search needs
 returns-4 : tie.Need-returns-4
 unfolding snapshotIn readSnapshot snapshot viewSnapshotRead viewNamesAt viewHeader
 returns-4 c =
-    role-other _ _ keepSnapshot (c .before .before .before .before .before .before .before .before .before .before .before .before .before .before .before .before .before .args .file .now) (c .before .before .before .before .before .before .before .before .before .before .before .before .before .before .before .open-envelope .result) (c .before .before .before .before .before .before .before .before .before .before .before .before .before .before .before .open-envelope .ensures) _ _ _ (c .before .before .before .before .before .before .before .before .before .before .before .before .before .if1 .left) _ _ (c .before .before .before .before .before .before .before .before .before .before .meta-names .ensures .0 _ _ (c .before .before .before .before .before .before .before .before .before .before .before .find-member .ensures .means))
-    _ _ (c .before .before .before .before .before .header-at .ensures (c .before .before .before .before .before .before .extent-of .ensures _ (c .before .before .before .before .before .before .before .before .before .before .meta-names .ensures .1))) (not-false _ (c .before .before .before .before .before .before .before .before .if2 .left)) (not-false _ (c .before .before .before .if3 .left)) (not-true _ (c .before .if4 .taken)) (c .refused4 .ensures)
+    role-other _ _ noTable keepSnapshot (c .before .before .before .before .before .before .before .before .before .before .before .before .before .before .before .before .before .args .file .now) (c .before .before .before .before .before .before .before .before .before .before .before .before .before .before .before .open-envelope .result) (c .before .before .before .before .before .before .before .before .before .before .before .before .before .before .before .open-envelope .ensures) _ _ _ (c .before .before .before .before .before .before .before .before .before .before .before .before .before .if1 .left) _ _ (c .before .before .before .before .before .before .before .before .before .before .meta-names .ensures .0 _ _ (c .before .before .before .before .before .before .before .before .before .before .before .find-member .ensures .means))
+    _ _ (c .before .before .before .before .before .header-at .ensures (c .before .before .before .before .before .before .extent-of .ensures _ (c .before .before .before .before .before .before .before .before .before .before .meta-names .ensures .1))) (not-false _ (c .before .before .before .before .before .before .before .before .if2 .left)) (not-false _ (c .before .before .before .if3 .left)) true (λ v h. refl) refl (not-true _ (c .before .if4 .taken)) (c .refused4 .ensures)
 
 returns-5 : tie.Need-returns-5
 unfolding snapshotIn readSnapshot snapshot viewSnapshotRead viewNamesAt viewHeader viewSnapshot keepSnapshot
 returns-5 c =
-    role-says _ _ keepSnapshot (c .before .before .before .before .before .before .before .before .before .before .before .before .before .before .before .before .before .before .before .args .file .now) (c .before .before .before .before .before .before .before .before .before .before .before .before .before .before .before .before .before .open-envelope .result) (c .before .before .before .before .before .before .before .before .before .before .before .before .before .before .before .before .before .open-envelope .ensures) _ _ _ (c .before .before .before .before .before .before .before .before .before .before .before .before .before .before .before .if1 .left) _ _ (c .before .before .before .before .before .before .before .before .before .before .before .before .meta-names .ensures .0 _ _ (c .before .before .before .before .before .before .before .before .before .before .before .before .before .find-member .ensures .means))
-    _ _ (c .before .before .before .before .before .before .before .header-at .ensures (c .before .before .before .before .before .before .before .before .extent-of .ensures _ (c .before .before .before .before .before .before .before .before .before .before .before .before .meta-names .ensures .1))) (not-false _ (c .before .before .before .before .before .before .before .before .before .before .if2 .left)) (not-false _ (c .before .before .before .before .before .if3 .left)) (not-false _ (c .before .before .before .if4 .left)) refl (λ spec. refl) refl
+    role-says _ _ noTable keepSnapshot (c .before .before .before .before .before .before .before .before .before .before .before .before .before .before .before .before .before .before .before .args .file .now) (c .before .before .before .before .before .before .before .before .before .before .before .before .before .before .before .before .before .open-envelope .result) (c .before .before .before .before .before .before .before .before .before .before .before .before .before .before .before .before .before .open-envelope .ensures) _ _ _ (c .before .before .before .before .before .before .before .before .before .before .before .before .before .before .before .if1 .left) _ _ (c .before .before .before .before .before .before .before .before .before .before .before .before .meta-names .ensures .0 _ _ (c .before .before .before .before .before .before .before .before .before .before .before .before .before .find-member .ensures .means))
+    _ _ (c .before .before .before .before .before .before .before .header-at .ensures (c .before .before .before .before .before .before .before .before .extent-of .ensures _ (c .before .before .before .before .before .before .before .before .before .before .before .before .meta-names .ensures .1))) (not-false _ (c .before .before .before .before .before .before .before .before .before .before .if2 .left)) (not-false _ (c .before .before .before .before .before .if3 .left)) true (λ v h. refl) refl (not-false _ (c .before .before .before .if4 .left)) refl (λ spec. refl) refl
 
 pub read-snapshot-spec : {M : Type 1} → statement M
 read-snapshot-spec =

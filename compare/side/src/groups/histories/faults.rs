@@ -4,7 +4,10 @@ use super::History;
 use super::offers::{Edit, Offer, Plan};
 use super::signing::sign;
 use crate::random::Random;
-use crate::shelf::files::{HIGHEST_VERSION, LONGEST, Role};
+use crate::shelf::files::{HIGHEST_VERSION, LONGEST, Role, Root};
+
+/// Keys that no root has under their own keyids.
+const OTHER_KEYS: std::ops::RangeInclusive<usize> = 800..=840;
 
 /// One fault, put into an offer.
 pub type Fault = fn(&mut History, &mut Offer);
@@ -23,9 +26,11 @@ pub const FAULTS: &[Fault] = &[
     other_listing,
     other_listing,
     spoilt_row,
-    spoilt_digest,
+    spoilt_row,
+    other_keyid,
     other_spec_version,
     |_, offer| offer.edit = Edit::Form,
+    |_, offer| offer.edit = Edit::MendedForm,
     |_, offer| offer.edit = Edit::Text,
     long,
 ];
@@ -165,22 +170,22 @@ fn spoilt_row(history: &mut History, offer: &mut Offer) {
     }
 }
 
-/// A digest of another length, or another one. Only snapshot and targets are given one.
-fn spoilt_digest(history: &mut History, offer: &mut Offer) {
-    let random = &mut history.random;
-    let mut digest = offer.digest.clone().unwrap_or_else(|| vec![7; 32]);
-    match random.below(6) {
-        0 => drop(digest.pop()),
-        1 => digest.push(0),
-        2 => digest.clear(),
-        3 => digest = paper::hex::written(&digest).into_bytes(),
-        _ => {
-            if let Some(byte) = digest.get_mut(random.below(32)) {
-                *byte ^= 1 << random.below(8);
-            }
-        }
+/// A key under the keyid of another: one that the root has not, or two of its own exchanged. Only roots have keys.
+fn other_keyid(history: &mut History, offer: &mut Offer) {
+    if let Plan::First(root, _) | Plan::Root(root) = &mut offer.plan {
+        spoil_key(root, &mut history.random);
     }
-    offer.digest = Some(digest);
+}
+
+fn spoil_key(root: &mut Root, random: &mut Random) {
+    let numbers: Vec<usize> = root.keys.keys().copied().collect();
+    let (one, other) = (random.pick(&numbers), random.pick(&numbers));
+    if one != other && random.one_in(2) {
+        root.keys.extend([(one, other), (other, one)]);
+    } else {
+        root.keys
+            .insert(one, random.between(*OTHER_KEYS.start(), *OTHER_KEYS.end()));
+    }
 }
 
 fn other_spec_version(history: &mut History, offer: &mut Offer) {

@@ -87,8 +87,8 @@ pub struct History {
     offered: Vec<Call>,
     /// The keyids of all roots held so far.
     keyids: BTreeSet<String>,
-    /// The targets files accepted so far, with the digests given.
-    targets: Vec<(Vec<u8>, Vec<u8>)>,
+    /// The targets files accepted so far.
+    targets: Vec<Vec<u8>>,
 }
 
 impl History {
@@ -155,6 +155,13 @@ impl History {
         Some(self.publisher.made_again(held))
     }
 
+    /// The same, if the publisher can go on from it.
+    fn own_root(&self) -> Option<Root> {
+        let held = self.script.state().root.as_ref();
+        held.filter(|held| self.publisher.knows(held))
+            .map(|held| self.publisher.made_again(held))
+    }
+
     /// Offers a file. If its answer is known, by the way it was made, it is the number and the versions held.
     fn offer(&mut self, offer: &Offer, stated: Option<String>) {
         let call = offer.call(&mut self.random);
@@ -165,7 +172,7 @@ impl History {
     /// Makes a call that offers a file, and notes what was accepted.
     fn make(&mut self, call: Call, stated: Option<String>) {
         let targets = match &call {
-            Call::Targets { file, digest, .. } => Some((file.clone(), digest.clone())),
+            Call::Targets { file, .. } => Some(file.clone()),
             _ => None,
         };
         let answer = match stated {
@@ -184,10 +191,6 @@ impl History {
     /// Offers a file that has one fault or two.
     fn offer_spoilt(&mut self, offer: &Offer) {
         let mut spoilt = offer.clone();
-        // The digest stays that of the sound file, so that the fault is not hidden behind another digest.
-        if !self.random.one_in(4) {
-            spoilt.digest = Some(digest(&offer.file(&mut self.random)).to_vec());
-        }
         let count = self.random.pick(&[1, 1, 1, 2, 2, 3]);
         for _ in 0..count {
             self.random.pick(FAULTS)(self, &mut spoilt);
@@ -301,7 +304,7 @@ impl History {
     /// One or more roots of the publisher, with others between them.
     fn roots(&mut self) {
         for _ in 0..self.random.pick(&[1, 1, 2, 3]) {
-            let Some(held) = self.held_root() else { return };
+            let Some(held) = self.own_root() else { return };
             self.publisher.set_root(held);
             let mut root = self.publisher.next_root(&mut self.random);
             // "Expiry does not matter here."
@@ -354,7 +357,7 @@ impl History {
         if !is_ordinary || self.random.one_in(3) {
             self.cycle(time);
         }
-        let Some(held) = self.held_root() else {
+        let Some(held) = self.own_root() else {
             return self.beginning();
         };
         let expires = held.header.expires;
@@ -440,40 +443,36 @@ impl History {
 
     /// Looks for an image in the targets file accepted last, or in another one; now and then with a fault.
     fn find(&mut self) {
-        let (mut file, mut digest) = self.targets_file();
+        let mut file = self.targets_file();
         let paths = paths_in(&file);
         match self.random.below(24) {
-            0 => digest = vec![7; self.random.pick(&[0, 31, 32, 33, 64])],
-            1 | 2 => {
-                let place = self.random.below(digest.len());
-                digest[place] ^= 1 << self.random.below(8);
-            }
+            0 => file = replaced(&file, b"\"sig\":\"00", b"\"sig\":\"01"),
+            1 => file = replaced(&file, b"{\"signatures\"", b"{\"\":0,\"signatures\""),
+            2 => file = replaced(&file, b"\"length\":3", b"\"length\":4"),
             3 => file = super::damage::edited(file, &mut self.random),
             4 => file = self.any_offered_file().unwrap_or_default(),
             5 if self.random.one_in(8) => file = [&file[..], &vec![b' '; 32_768]].concat(),
             6 => file = replaced(&file, b"\"spec_version\":\"1", b"\"spec_version\":\"2"),
             7 => {
-                if let Some((other, _)) = self.targets.first() {
+                if let Some(other) = self.targets.first() {
                     file = other.clone();
                 }
             }
             _ => {}
         }
         let path = self.path(&paths);
-        self.script.open(Call::Find { file, digest, path });
+        self.script.open(Call::Find { file, path });
     }
 
-    /// A targets file with its digest: mostly the one accepted last.
-    fn targets_file(&mut self) -> (Vec<u8>, Vec<u8>) {
+    /// A targets file: mostly the one accepted last.
+    fn targets_file(&mut self) -> Vec<u8> {
         if self.random.one_in(8) {
             let release = self.publisher.release(self.script.state(), &mut self.random);
             let [_, _, targets] = release.offers;
-            let file = targets.file(&mut self.random);
-            let digest = digest(&file).to_vec();
-            return (file, digest);
+            return targets.file(&mut self.random);
         }
         match self.targets.len() {
-            0 => (self.any_offered_file().unwrap_or_default(), vec![1; 32]),
+            0 => self.any_offered_file().unwrap_or_default(),
             count if self.random.one_in(7) => self.targets[self.random.below(count)].clone(),
             count => self.targets[count - 1].clone(),
         }

@@ -5,7 +5,7 @@ use crate::calls::Call;
 use crate::groups::{damage, mutants};
 use crate::random::Random;
 use crate::shelf::files::{self, Header, LONGEST, Root, Snapshot, Targets, Timestamp};
-use crate::shelf::sha256::digest;
+use crate::shelf::keyids::mended;
 use crate::shelf::tree::Tree;
 
 /// What a file says.
@@ -52,6 +52,8 @@ pub enum Edit {
     None,
     /// One edit of its form.
     Form,
+    /// One edit of its form, after which the keys of a root have their true keyids again.
+    MendedForm,
     /// One edit of its text.
     Text,
     /// It is made so long.
@@ -65,8 +67,6 @@ pub struct Offer {
     pub plan: Plan,
     /// Its entries and their verdicts.
     pub signing: Signing,
-    /// The digest that is given with it, if it is not to be that of the file.
-    pub digest: Option<Vec<u8>>,
     /// What is done to it.
     pub edit: Edit,
 }
@@ -77,7 +77,6 @@ impl Offer {
         Offer {
             plan,
             signing,
-            digest: None,
             edit: Edit::None,
         }
     }
@@ -88,6 +87,7 @@ impl Offer {
         match self.edit {
             Edit::None => tree.written(),
             Edit::Form => mutants::any(&tree, random).written(),
+            Edit::MendedForm => mended(&mutants::any(&tree, random)).written(),
             Edit::Text => damage::edited(tree.written(), random),
             Edit::Padded(length) if tree.written().len() + 100 < LONGEST => {
                 files::padded(&tree, length, random.one_in(2))
@@ -100,7 +100,6 @@ impl Offer {
     pub fn call(&self, random: &mut Random) -> Call {
         let file = self.file(random);
         let row = |number: usize| self.signing.rows.get(number).cloned().unwrap_or_default();
-        let digest = self.digest.clone().unwrap_or_else(|| digest(&file).to_vec());
         match &self.plan {
             Plan::First(_, time) => Call::Install {
                 file,
@@ -113,16 +112,8 @@ impl Offer {
                 own_row: row(1),
             },
             Plan::Timestamp(_) => Call::Timestamp { file, row: row(0) },
-            Plan::Snapshot(_) => Call::Snapshot {
-                file,
-                row: row(0),
-                digest,
-            },
-            Plan::Targets(_) => Call::Targets {
-                file,
-                row: row(0),
-                digest,
-            },
+            Plan::Snapshot(_) => Call::Snapshot { file, row: row(0) },
+            Plan::Targets(_) => Call::Targets { file, row: row(0) },
         }
     }
 }

@@ -12,12 +12,14 @@ use super::signing::{Signing, sign};
 use crate::random::Random;
 use crate::shelf::dates;
 use crate::shelf::files::{
-    self, HIGHEST_VERSION, Header, Listed, Role, Root, Snapshot, Targets, Timestamp, keyid, public,
+    self, HIGHEST_VERSION, Header, KEYS_WITH_MORE, Listed, Role, Root, Snapshot, Targets, Timestamp, keyid,
 };
 use crate::shelf::sha256::{Digest, digest};
 
-/// The publisher chooses from the keys 1 to 40.
-const KEYS: usize = 40;
+/// The keys from which the publisher chooses; some have members that no form names.
+fn all_keys() -> impl Iterator<Item = usize> {
+    (1..=30).chain(KEYS_WITH_MORE.take(10))
+}
 
 /// "keys", 1 to 16
 const MOST_KEYS: usize = 16;
@@ -59,12 +61,10 @@ const NAMES: &[&str] = &[
     "0123456789abcdef0123456789abcdef",
 ];
 
-/// The numbers of the keys by keyid and by public value.
+/// The numbers of the keys by keyid.
 static NUMBERS: LazyLock<BTreeMap<&str, usize>> = LazyLock::new(|| {
     let numbers = 0..files::KEYS;
-    numbers
-        .flat_map(|key| [(keyid(key), key), (public(key), key)])
-        .collect()
+    numbers.map(|key| (keyid(key), key)).collect()
 });
 
 /// The publisher of one history.
@@ -88,7 +88,7 @@ impl Publisher {
     /// Makes a first root.
     pub fn begin(&mut self, random: &mut Random) {
         let table = random.pick(&[1, 3, 5, 6, 8, 8, MOST_KEYS]);
-        let mut numbers: Vec<usize> = (1..=KEYS).collect();
+        let mut numbers: Vec<usize> = all_keys().collect();
         random.shuffle(&mut numbers);
         let mut root = Root::new(self.first_version(random), self.root_expiry(random));
         root.consistent_snapshot = random.one_in(2);
@@ -115,19 +115,23 @@ impl Publisher {
             let numbers = held.keyids.iter().filter_map(|keyid| NUMBERS.get(&**keyid));
             Role::new(numbers.copied().collect::<Vec<_>>(), held.threshold)
         };
-        let keys = held.keys.iter().filter_map(|(keyid, public)| {
-            let key = NUMBERS.get(&**keyid)?;
-            Some((*key, NUMBERS.get(&**public).copied().unwrap_or(*key)))
-        });
+        let keys = held.keys.keys().filter_map(|keyid| NUMBERS.get(&**keyid));
         Root {
             header: Header::new(held.header.version, held.header.expires),
             consistent_snapshot: held.consistent_snapshot,
-            keys: keys.collect(),
+            keys: keys.map(|key| (*key, *key)).collect(),
             root: role(&held.root),
             timestamp: role(&held.timestamp),
             snapshot: role(&held.snapshot),
             targets: role(&held.targets),
         }
+    }
+
+    /// Whether all keys of the roles are the publisher's own. An edited key under its true keyid is another key.
+    pub fn knows(&self, held: &forms::Root) -> bool {
+        let roles = [&held.root, &held.timestamp, &held.snapshot, &held.targets];
+        let mut keyids = roles.into_iter().flat_map(|role| &role.keyids);
+        keyids.all(|keyid| NUMBERS.contains_key(&**keyid))
     }
 
     /// The next root: of each role the keys may stay, or be rotated in one of many ways.
@@ -151,7 +155,7 @@ impl Publisher {
     pub fn recovering_root(&mut self, random: &mut Random) -> Root {
         let mut root = self.root.clone();
         root.header = Header::new(root.header.version + 1, self.base + 2 * SPAN);
-        let rotated: Vec<usize> = (1..=KEYS).filter(|key| !root.timestamp.keys.contains(key)).collect();
+        let rotated: Vec<usize> = all_keys().filter(|key| !root.timestamp.keys.contains(key)).collect();
         root.timestamp = Role::new([random.pick(&rotated)], 1);
         self.fill_table(&mut root, random);
         root
@@ -171,24 +175,11 @@ impl Publisher {
             needed = few.into_iter().collect();
         }
         let before = std::mem::take(&mut root.keys);
-        for key in &needed {
-            // Now and then a key gets another public value; that is no rotation.
-            let value = before.get(key).copied().unwrap_or(*key);
-            let value = if random.one_in(30) {
-                key + 100 * random.between(1, 5)
-            } else {
-                value
-            };
-            root.keys.insert(*key, value);
-        }
-        for (key, value) in before {
+        root.keys = needed.into_iter().map(|key| (key, key)).collect();
+        for key in before.into_keys() {
             if root.keys.len() < MOST_KEYS && random.one_in(2) {
-                root.keys.entry(key).or_insert(value);
+                root.keys.insert(key, key);
             }
-        }
-        let values: BTreeSet<usize> = root.keys.values().copied().collect();
-        if values.len() < root.keys.len() {
-            root.keys = root.keys.keys().map(|key| (*key, *key)).collect();
         }
     }
 
@@ -263,7 +254,7 @@ fn any_role(keys: &[usize], random: &mut Random) -> Role {
 
 /// A key more, a key less, other keys, another order, another threshold.
 fn change_role(role: &mut Role, random: &mut Random) {
-    let others: Vec<usize> = (1..=KEYS).filter(|key| !role.keys.contains(key)).collect();
+    let others: Vec<usize> = all_keys().filter(|key| !role.keys.contains(key)).collect();
     match random.below(6) {
         0 if role.keys.len() < 8 => role.keys.push(random.pick(&others)),
         1 if role.keys.len() > 1 => drop(role.keys.pop()),
@@ -336,7 +327,8 @@ impl Maker<'_> {
         let timestamp = self.timestamp(&snapshot);
         let mut offers = [timestamp, snapshot, targets];
         let time = self.state.time;
-        let is_root_good = self.state.root.as_ref().is_some_and(|root| root.header.expires > time);
+        let is_good = |root: &forms::Root| root.header.expires > time && self.publisher.knows(root);
+        let is_root_good = self.state.root.as_ref().is_some_and(is_good);
         let can_rise = !self.publisher.is_stuck(self.state);
         let are_good = offers.iter_mut().all(|offer| offer.plan.header().expires > time);
         Release {

@@ -8,7 +8,7 @@ use std::collections::{BTreeMap, BTreeSet};
 use super::{Recorder, all_of};
 use crate::calls::Call;
 use crate::compare::{Cases, Group};
-use crate::shelf::files::{Header, Listed, Role, Root, Snapshot, Targets, Timestamp, keyid};
+use crate::shelf::files::{Header, Listed, Role, Root, Snapshot, Targets, Timestamp};
 use crate::shelf::sha256::{Digest, digest};
 use crate::shelf::signer::Signer;
 use office::{By, File, Office, by};
@@ -28,7 +28,7 @@ const SNAPSHOT: usize = 6;
 const TARGETS_A: usize = 7;
 const TARGETS_B: usize = 8;
 const ATTACKER: usize = 9;
-/// Takes the place of the key B, under its keyid.
+/// Takes the place of the key B.
 const ROOT_B_NEW: usize = 10;
 const KEYS: std::ops::RangeInclusive<usize> = ROOT_A..=ROOT_B_NEW;
 
@@ -73,18 +73,19 @@ pub fn groups() -> Vec<Group> {
 
 fn shelf(signer: Signer, seed: u64) -> Cases {
     let mut shelf = Shelf {
-        office: Office::new(signer, seed),
+        office: Office::new(signer, seed, KEYS),
         script: Recorder::default(),
         held: None,
         inspected: BTreeSet::new(),
     };
-    let parts: [fn(&mut Shelf); 9] = [
+    let parts: [fn(&mut Shelf); 10] = [
         first_root,
         first_release,
         root_that_rotates_timestamp_keys,
         stolen_key,
         root_with_threshold_2_of_3,
-        root_with_another_key_of_one_keyid,
+        keys_under_keyids_of_others,
+        root_with_another_key,
         release_listed_whole,
         old_files_and_lowered_versions,
         expired_timestamp,
@@ -114,14 +115,12 @@ fn root(version: u64) -> Root {
         keys.push(TIMESTAMP_NEW);
     }
     if version >= 3 {
-        root.root = Role::new([ROOT_A, ROOT_B, ROOT_C], 2);
+        let root_b = if version >= 4 { ROOT_B_NEW } else { ROOT_B };
+        root.root = Role::new([ROOT_A, root_b, ROOT_C], 2);
         keys.retain(|key| *key != TIMESTAMP_OLD);
-        keys.extend([ROOT_B, ROOT_C]);
+        keys.extend([root_b, ROOT_C]);
     }
     root.keys = keys.into_iter().map(|key| (key, key)).collect();
-    if version >= 4 {
-        root.keys.insert(ROOT_B, ROOT_B_NEW);
-    }
     root
 }
 
@@ -187,8 +186,8 @@ impl Shelf {
         let (start, length, entries) = (file.start(), file.part.len(), file.entries.len());
         let stated = format!("look 0 {start} {length} {entries}");
         self.script.stated(Call::Look(bytes.clone()), stated);
-        for ((key, signature), place) in file.entries.iter().zip(0..) {
-            let stated = format!("entry 0 {} {}", keyid(*key), hex::written(signature));
+        for ((keyid, signature), place) in file.entries.iter().zip(0..) {
+            let stated = format!("entry 0 {keyid} {}", hex::written(signature));
             self.script.stated(
                 Call::Entry {
                     file: bytes.clone(),
@@ -207,14 +206,15 @@ impl Shelf {
 
     /// Asks for every key.
     fn ask_keys(&mut self) {
-        for key in KEYS {
-            let value = self.held.as_ref().map(|root| root.keys.get(&key).copied());
-            let stated = match value {
-                Some(Some(value)) => format!("key 0 {}", hex::written(&self.office.public(value))),
-                Some(None) => format!("key 15 {}", hex::zeros(64)),
+        for number in KEYS {
+            let key = self.office.key(number);
+            let is_held = self.held.as_ref().map(|root| root.keys.contains_key(&number));
+            let stated = match is_held {
+                Some(true) => format!("key 0 {}", key.public),
+                Some(false) => format!("key 15 {}", hex::zeros(64)),
                 None => format!("key 6 {}", hex::zeros(64)),
             };
-            self.script.stated(Call::Key(keyid(key).into()), stated);
+            self.script.stated(Call::Key(key.keyid.clone().into()), stated);
         }
     }
 
@@ -261,7 +261,6 @@ impl Shelf {
         let call = Call::Snapshot {
             file: file.bytes(),
             row: self.held_row(file),
-            digest: file.digest().to_vec(),
         };
         self.script.stated(call, format!("snapshot {answer}"));
     }
@@ -271,7 +270,6 @@ impl Shelf {
         let call = Call::Targets {
             file: file.bytes(),
             row: self.held_row(file),
-            digest: file.digest().to_vec(),
         };
         self.script.stated(call, format!("targets {answer}"));
     }
@@ -279,7 +277,6 @@ impl Shelf {
     fn find(&mut self, file: &File, path: &str, answer: &str) {
         let call = Call::Find {
             file: file.bytes(),
-            digest: file.digest().to_vec(),
             path: path.into(),
         };
         self.script.stated(call, format!("find {answer}"));
@@ -309,6 +306,12 @@ impl Shelf {
         self.find_refused(file, "gate", 15);
         self.find_refused(file, r#"pump \"old\"\\1.img"#, 15);
         self.find_refused(&file.damaged(), IMAGES[0].0, 8);
+        // The same signed part, but the digest is that of the whole file.
+        let unsigned = File {
+            entries: Vec::new(),
+            ..file.clone()
+        };
+        self.find_refused(&unsigned, IMAGES[0].0, 8);
     }
 }
 
@@ -325,6 +328,11 @@ fn first_root(shelf: &mut Shelf) {
     let other = shelf.root_file(&root(2), &[by(ROOT_A)]);
     shelf.install(&first, &honest.damaged(), blank);
     shelf.install(&first, &honest.with_entries_of(&other), blank);
+    // The attacker's key under the keyid of A verifies what it signs.
+    let mut taken_over = first.clone();
+    taken_over.keys.insert(ROOT_A, ATTACKER);
+    let file = shelf.root_file(&taken_over, &[forged(ROOT_A)]);
+    shelf.install(&taken_over, &file, &blank.replacen("10", "16", 1));
     let held = format!("0 root=1 timestamp=- snapshot=- targets=- time={NOW}");
     shelf.install(&first, &honest, &held);
     shelf.ask_keys();
@@ -471,21 +479,39 @@ fn root_with_threshold_2_of_3(shelf: &mut Shelf) {
     shelf.timestamp(&stolen, &refused);
 }
 
-/// Root 4 has another public key under the keyid of B: its two rows of verdicts differ. No keyid changes: nothing is
-/// dropped.
-fn root_with_another_key_of_one_keyid(shelf: &mut Shelf) {
+/// Roots 4 that have a key under the keyid of another are refused with 16, whoever signs them: the key B exchanged by the
+/// publisher, who leaves its keyid as it was; the attacker's key in the place of one that is held, or of one that no role
+/// names.
+fn keys_under_keyids_of_others(shelf: &mut Shelf) {
+    let held = |number: u8| format!("{number} root=3 timestamp=2 snapshot=2 targets=2 time={NOW}");
+    let mut fourth = root(3);
+    fourth.header.version = 4;
+    for (keyid, key) in [(ROOT_B, ROOT_B_NEW), (ROOT_C, ATTACKER), (TIMESTAMP_OLD, ATTACKER)] {
+        let mut exchanged = fourth.clone();
+        exchanged.keys.insert(keyid, key);
+        let signed_by_new = By { keyid, key };
+        for entries in [
+            &[by(ROOT_A), by(ROOT_B), signed_by_new][..],
+            &[by(ROOT_A), signed_by_new],
+        ] {
+            let file = shelf.root_file(&exchanged, entries);
+            shelf.root(&exchanged, &file, &held(16));
+        }
+    }
+    shelf.ask_keys();
+}
+
+/// Root 4 has another root key in the place of B, under its own keyid: its two rows of verdicts differ. No other role's keys
+/// change: nothing is dropped.
+fn root_with_another_key(shelf: &mut Shelf) {
     let held = |number: u8| format!("{number} root=3 timestamp=2 snapshot=2 targets=2 time={NOW}");
     let fourth = root(4);
-    let new_b = By {
-        keyid: ROOT_B,
-        key: ROOT_B_NEW,
-    };
     // The old key B verifies under the held root alone, the new one under root 4 alone.
-    for (entries, number) in [([by(ROOT_A), by(ROOT_B)], 10), ([by(ROOT_A), new_b], 9)] {
+    for (entries, number) in [([by(ROOT_A), by(ROOT_B)], 10), ([by(ROOT_A), by(ROOT_B_NEW)], 9)] {
         let file = shelf.root_file(&fourth, &entries);
         shelf.root(&fourth, &file, &held(number));
     }
-    let honest = shelf.root_file(&fourth, &[by(ROOT_A), by(ROOT_B), new_b]);
+    let honest = shelf.root_file(&fourth, &[by(ROOT_A), by(ROOT_B), by(ROOT_B_NEW)]);
     shelf.root(
         &fourth,
         &honest,
@@ -595,9 +621,9 @@ fn expired_timestamp(shelf: &mut Shelf) {
 
 #[cfg(test)]
 mod tests {
-    use super::{ROOT_A, ROOT_B, ROOT_B_NEW, forged, root, shelf};
+    use super::{KEYS, ROOT_A, ROOT_B, ROOT_B_NEW, forged, root, shelf};
     use crate::calls::Call;
-    use crate::groups::signed::office::{By, Office, by};
+    use crate::groups::signed::office::{Office, by};
     use crate::shelf::signer::Signer;
     use paper::state::State;
 
@@ -622,7 +648,7 @@ mod tests {
 
     #[test]
     fn a_verdict_that_is_not_worked_out_is_noticed() {
-        let mut office = Office::new(Signer::at_hand(), 1);
+        let mut office = Office::new(Signer::at_hand(), 1, KEYS);
         let first = root(1);
         let part = office.root_part(&first);
         let file = office.signed(&part, &[forged(ROOT_A)]);
@@ -633,13 +659,9 @@ mod tests {
 
     #[test]
     fn root_4_has_two_rows() {
-        let mut office = Office::new(Signer::at_hand(), 1);
+        let mut office = Office::new(Signer::at_hand(), 1, KEYS);
         let part = office.root_part(&root(4));
-        let new_b = By {
-            keyid: ROOT_B,
-            key: ROOT_B_NEW,
-        };
-        let file = office.signed(&part, &[by(ROOT_A), by(ROOT_B), new_b]);
+        let file = office.signed(&part, &[by(ROOT_A), by(ROOT_B), by(ROOT_B_NEW)]);
         assert_eq!(office.row(&file, &root(3)), [1, 1, 0]);
         assert_eq!(office.row(&file, &root(4)), [1, 0, 1]);
     }

@@ -4,8 +4,8 @@ use std::collections::BTreeMap;
 
 use paper::hex;
 
-use crate::shelf::files::{Root, keyid};
-use crate::shelf::sha256::{Digest, digest};
+use crate::shelf::files::{Key, Root};
+use crate::shelf::sha256::digest;
 use crate::shelf::signer::{Public, Seed, Signature, Signer};
 use crate::shelf::tree::{Tree, object, text};
 
@@ -28,15 +28,15 @@ pub fn by(key: usize) -> By {
 pub struct File {
     /// The signed part.
     pub part: Vec<u8>,
-    /// The numbers of the keyids, and the signatures, in file order.
-    pub entries: Vec<(usize, Signature)>,
+    /// The keyids and the signatures, in file order.
+    pub entries: Vec<(String, Signature)>,
 }
 
 impl File {
     /// The whole file.
     pub fn bytes(&self) -> Vec<u8> {
-        let entry = |(key, signature): &(usize, Signature)| {
-            object([("keyid", text(keyid(*key))), ("sig", text(hex::written(signature)))])
+        let entry = |(keyid, signature): &(String, Signature)| {
+            object([("keyid", text(&**keyid)), ("sig", text(hex::written(signature)))])
         };
         let entries = Tree::Array(self.entries.iter().map(entry).collect());
         let envelope = object([("signatures", entries), ("signed", object::<&str>([]))]).written();
@@ -47,11 +47,6 @@ impl File {
     /// Where the signed part begins: one closing bracket stands behind it.
     pub fn start(&self) -> usize {
         self.bytes().len() - 1 - self.part.len()
-    }
-
-    /// The digest of the whole file.
-    pub fn digest(&self) -> Digest {
-        digest(&self.bytes())
     }
 
     /// The file with one byte of its signed part changed after signing: the last digit of the year in which it expires.
@@ -78,15 +73,20 @@ pub struct Office {
     signer: Signer,
     seed: u64,
     publics: BTreeMap<usize, Public>,
+    keys: BTreeMap<usize, Key>,
 }
 
 impl Office {
-    /// Keys of its own for each seed.
-    pub fn new(signer: Signer, seed: u64) -> Office {
+    /// The keys with these numbers, others for each seed.
+    pub fn new(mut signer: Signer, seed: u64, numbers: impl Iterator<Item = usize>) -> Office {
+        let public = |number| (number, signer.public(&private(number, seed)));
+        let publics: BTreeMap<usize, Public> = numbers.map(public).collect();
+        let key = |(number, public): (&usize, &Public)| (*number, Key::new(hex::written(public)));
         Office {
+            keys: publics.iter().map(key).collect(),
+            publics,
             signer,
             seed,
-            publics: BTreeMap::new(),
         }
     }
 
@@ -95,20 +95,18 @@ impl Office {
         self.signer.name()
     }
 
-    fn private(&self, key: usize) -> Seed {
-        digest(format!("private key {key} of seed {}", self.seed).as_bytes())
-    }
-
-    /// The public key with this number.
-    pub fn public(&mut self, key: usize) -> Public {
-        let private = self.private(key);
-        *self.publics.entry(key).or_insert_with(|| self.signer.public(&private))
+    /// The key with this number, as it stands in a key table.
+    pub fn key(&self, number: usize) -> &Key {
+        &self.keys[&number]
     }
 
     /// A file with these entries.
     pub fn signed(&mut self, part: &Tree, entries: &[By]) -> File {
         let part = part.written();
-        let mut sign = |by: &By| (by.keyid, self.signer.sign(&self.private(by.key), &part));
+        let mut sign = |by: &By| {
+            let signature = self.signer.sign(&private(by.key, self.seed), &part);
+            (self.keys[&by.keyid].keyid.clone(), signature)
+        };
         File {
             entries: entries.iter().map(&mut sign).collect(),
             part,
@@ -116,38 +114,38 @@ impl Office {
     }
 
     /// The signed part of a root, with the true public keys in its table.
-    pub fn root_part(&mut self, root: &Root) -> Tree {
-        let mut part = root.signed();
-        for (key, value) in &root.keys {
-            let public = hex::written(&self.public(*value));
-            *part.member(&["keys", keyid(*key), "keyval", "public"]) = text(public);
-        }
-        part
+    pub fn root_part(&self, root: &Root) -> Tree {
+        root.signed_with(|number| self.key(number))
     }
 
     /// The verdicts under a root's keys: "1 for verifies over the signed part under the key of that keyid, 0 for does
     /// not". A keyid that the root does not have verifies nothing.
     pub fn row(&mut self, file: &File, root: &Root) -> Vec<u8> {
-        let mut verdict = |(keyid, signature): &(usize, Signature)| match root.keys.get(keyid) {
-            Some(value) => {
-                let public = self.public(*value);
-                u8::from(self.signer.verifies(&public, &file.part, signature))
-            }
-            None => 0,
+        let Office {
+            signer, publics, keys, ..
+        } = self;
+        let mut verdict = |(keyid, signature): &(String, Signature)| {
+            let named = root.keys.iter().find(|(name, _)| keys[*name].keyid == *keyid);
+            let verifies = named.is_some_and(|(_, value)| signer.verifies(&publics[value], &file.part, signature));
+            u8::from(verifies)
         };
         file.entries.iter().map(&mut verdict).collect()
     }
 }
 
+fn private(number: usize, seed: u64) -> Seed {
+    digest(format!("private key {number} of seed {seed}").as_bytes())
+}
+
 #[cfg(test)]
 mod tests {
     use super::{By, File, Office, by};
-    use crate::shelf::files::{Root, keyid};
+    use crate::shelf::files::Root;
     use crate::shelf::signer::Signer;
     use paper::{envelope, forms, hex};
 
     fn office() -> Office {
-        Office::new(Signer::at_hand(), 5)
+        Office::new(Signer::at_hand(), 5, 1..=9)
     }
 
     fn root_file(office: &mut Office, entries: &[By]) -> File {
@@ -163,12 +161,12 @@ mod tests {
         let (start, part, entries) = envelope::look(&bytes).unwrap();
         assert_eq!((start, part, entries), (file.start(), &file.part[..], 2));
         let root = forms::root(&bytes).unwrap();
-        for (entry, (key, signature)) in root.entries.iter().zip(&file.entries) {
-            assert_eq!(entry.keyid, keyid(*key));
+        for (entry, (keyid, signature)) in root.entries.iter().zip(&file.entries) {
+            assert_eq!(entry.keyid, *keyid);
             assert_eq!(entry.sig, hex::written(signature));
         }
-        let public = hex::written(&office.public(3));
-        assert_eq!(root.says.keys[keyid(3)], public);
+        assert_eq!(root.entries[1].keyid, office.key(9).keyid);
+        assert_eq!(root.says.keys[&office.key(3).keyid], office.key(3).public);
         assert_eq!(root.says.keys.len(), 8);
     }
 

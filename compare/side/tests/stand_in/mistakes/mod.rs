@@ -2,6 +2,7 @@
 //! than those given, or by refusing where there is nothing to refuse. The comparison has to notice every one of them.
 
 mod forms;
+mod keyids;
 mod lines;
 mod questions;
 mod steps;
@@ -15,6 +16,7 @@ pub use lines::{error, line};
 pub fn answer(mistake: &str, script: &mut Script, call: &Call) -> Option<String> {
     texts::answer(mistake, call)
         .or_else(|| questions::answer(mistake, script, call))
+        .or_else(|| keyids::answer(mistake, script, call))
         .or_else(|| steps::answer(mistake, script, call))
         .or_else(|| forms::answer(mistake, script, call))
 }

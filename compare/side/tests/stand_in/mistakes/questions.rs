@@ -1,4 +1,4 @@
-//! Mistakes about looks, entries, keys, images, finds and the state.
+//! Mistakes about looks, entries, keys, images, finds, digests and the state.
 
 use paper::envelope;
 use paper::script::{Call, Script};
@@ -10,7 +10,8 @@ pub fn answer(mistake: &str, script: &mut Script, call: &Call) -> Option<String>
         Call::Entry { file, place } => entry(mistake, script, file, *place),
         Call::Key(keyid) => key(mistake, script, keyid),
         Call::Image { found, fetched } => image(mistake, script, found, fetched),
-        Call::Find { file, digest, path } => find(mistake, script, file, digest, path),
+        Call::Find { file, path } => find(mistake, script, file, path),
+        Call::Sha256(bytes) => sha256(mistake, script, bytes),
         Call::State => match mistake {
             "state-hides-targets" => {
                 let answer = script.call(call);
@@ -105,7 +106,7 @@ fn image(mistake: &str, script: &mut Script, found: &(u64, Vec<u8>), fetched: &(
     Some(script.call(&Call::Image { found, fetched }))
 }
 
-fn find(mistake: &str, script: &mut Script, file: &[u8], digest: &[u8], path: &[u8]) -> Option<String> {
+fn find(mistake: &str, script: &mut Script, file: &[u8], path: &[u8]) -> Option<String> {
     let refused = |number: u8| Some(format!("find {number} 0 {}", "0".repeat(64)));
     let other = match mistake {
         "find-with-escapes" => String::from_utf8_lossy(path)
@@ -118,19 +119,44 @@ fn find(mistake: &str, script: &mut Script, file: &[u8], digest: &[u8], path: &[
         "find-path-first" if path.is_empty() || path.len() > 128 => return refused(15),
         "find-127" if path.len() == 128 => return refused(15),
         "find-31-bit" => {
-            let answer = script.call(&call(file, digest, path));
+            let answer = script.call(&call(file, path));
             let length: u64 = answer.split(' ').nth(2)?.parse().ok()?;
             return (length >= 1 << 31).then(|| answer.replace(&length.to_string(), "2147483647"));
         }
         _ => return None,
     };
-    Some(script.call(&call(file, digest, &other)))
+    Some(script.call(&call(file, &other)))
 }
 
-fn call(file: &[u8], digest: &[u8], path: &[u8]) -> Call {
+fn call(file: &[u8], path: &[u8]) -> Call {
     Call::Find {
         file: file.to_vec(),
-        digest: digest.to_vec(),
         path: path.to_vec(),
     }
+}
+
+fn sha256(mistake: &str, script: &mut Script, bytes: &[u8]) -> Option<String> {
+    let rest = bytes.len() % 64;
+    let other = match mistake {
+        // The length is written over what stands at the end of the block.
+        "sha256-padding-in-one-block" if rest >= 56 => bytes[..bytes.len() - rest + 55].to_vec(),
+        "sha256-padding-after-a-full-block" if rest == 0 && !bytes.is_empty() => bytes[..bytes.len() - 1].to_vec(),
+        "sha256-length-in-16-bits" if bytes.len() >= 8_192 => bytes[..bytes.len() % 8_192].to_vec(),
+        "sha256-first-blocks" if bytes.len() > 128 => bytes[..128].to_vec(),
+        "sha256-of-a-file" if bytes.len() > 32_768 => bytes[..32_768].to_vec(),
+        "sha256-to-zero-byte" => bytes.split(|byte| *byte == 0).next()?.to_vec(),
+        "sha256-in-upper-case" => {
+            let answer = script.call(&Call::Sha256(bytes.to_vec()));
+            return Some(answer.to_uppercase().replace("SHA", "sha"));
+        }
+        "sha256-words-reversed" => {
+            let answer = script.call(&Call::Sha256(bytes.to_vec()));
+            let digest = paper::hex::bytes(answer.strip_prefix("sha256 ")?)?;
+            let words = digest.chunks(4).flat_map(|word| word.iter().rev());
+            let words: Vec<u8> = words.copied().collect();
+            return Some(format!("sha256 {}", paper::hex::written(&words)));
+        }
+        _ => return None,
+    };
+    Some(script.call(&Call::Sha256(other)))
 }

@@ -105,12 +105,6 @@ fn other_call(mistake: &str, state: &State, call: &Call) -> Option<Call> {
         ("last-entry-decides", _) => decide(&mut other, |verdicts| verdicts.last().copied())?,
         ("first-entry-decides", _) => decide(&mut other, |verdicts| verdicts.first().copied())?,
         ("signatures-counted", _) => return signatures_counted(state, call),
-        (
-            "long-digest-cut",
-            Call::Snapshot { digest, .. } | Call::Targets { digest, .. } | Call::Find { digest, .. },
-        ) => {
-            digest.truncate(32);
-        }
         ("time-unsigned", Call::Cycle(time) | Call::Install { time, .. }) => *time = (*time).max(0),
         ("time-32-bit", Call::Cycle(time) | Call::Install { time, .. }) => {
             *time = (*time).clamp(i64::from(i32::MIN), i64::from(i32::MAX));
@@ -141,8 +135,7 @@ fn decide(call: &mut Call, which: fn(&[u8]) -> Option<u8>) -> Option<()> {
 
 /// Counts entries: every further one of a key is taken for one of another key of the role.
 fn signatures_counted(state: &State, call: &Call) -> Option<Call> {
-    let (Call::Timestamp { file, row } | Call::Snapshot { file, row, .. } | Call::Targets { file, row, .. }) = call
-    else {
+    let (Call::Timestamp { file, row } | Call::Snapshot { file, row } | Call::Targets { file, row }) = call else {
         return None;
     };
     let role = role_of(state.root.as_ref()?, call)?;
@@ -249,11 +242,25 @@ fn meddle_before(mistake: &str, state: &mut State, call: &Call) {
                 listed_targets(state, |listed| listed.version = held);
             }
         }
-        ("find-digest-unchecked", Call::Find { digest, .. }) if digest.len() == 32 => {
-            state
-                .targets
-                .iter_mut()
-                .for_each(|held| held.digest = paper::hex::written(digest));
+        ("find-digest-unchecked", Call::Find { file, .. }) => {
+            state.targets.iter_mut().for_each(|held| held.digest = digest_of(file));
+        }
+        ("digest-of-the-signed-part", Call::Snapshot { file, .. }) => {
+            if let Some(sha256) = state.timestamp.as_mut().and_then(|held| held.snapshot.sha256.as_mut()) {
+                compare_signed_part(sha256, file);
+            }
+        }
+        ("digest-of-the-signed-part", Call::Targets { file, .. }) => {
+            listed_targets(state, |listed| {
+                if let Some(sha256) = &mut listed.sha256 {
+                    compare_signed_part(sha256, file);
+                }
+            });
+        }
+        ("signed-part-found-in", Call::Find { file, .. }) => {
+            if let Some(held) = &mut state.targets {
+                compare_signed_part(&mut held.digest, file);
+            }
         }
         ("vanished-prefix-taken", Call::Snapshot { file, .. }) => {
             if let (Some(held), Ok(new)) = (&mut state.snapshot, forms::snapshot(file)) {
@@ -271,22 +278,17 @@ fn meddle_before(mistake: &str, state: &mut State, call: &Call) {
                 *listed = length;
             }
         }
-        ("digest-31-bytes", Call::Snapshot { digest, .. }) => {
+        ("digest-31-bytes", Call::Snapshot { file, .. }) => {
             if let Some(sha256) = state.timestamp.as_mut().and_then(|held| held.snapshot.sha256.as_mut()) {
-                forget_last_byte(sha256, digest);
+                forget_last_byte(sha256, file);
             }
         }
-        ("digest-31-bytes", Call::Targets { digest, .. }) => {
+        ("digest-31-bytes", Call::Targets { file, .. }) => {
             listed_targets(state, |listed| {
                 if let Some(sha256) = &mut listed.sha256 {
-                    forget_last_byte(sha256, digest);
+                    forget_last_byte(sha256, file);
                 }
             });
-        }
-        ("kept-digest-31-bytes", Call::Find { digest, .. }) => {
-            if let Some(held) = &mut state.targets {
-                forget_last_byte(&mut held.digest, digest);
-            }
         }
         ("sixteenth-key-ignored", _) => {
             if let Some(root) = state.root.as_mut().filter(|root| root.keys.len() == 16) {
@@ -352,11 +354,23 @@ fn meddle_before(mistake: &str, state: &mut State, call: &Call) {
     }
 }
 
-/// Makes the last byte of a digest in hex that of the one given.
-fn forget_last_byte(sha256: &mut String, digest: &[u8]) {
-    if let [.., last] = digest {
-        sha256.truncate(62);
-        sha256.push_str(&paper::hex::written(&[*last]));
+fn digest_of(bytes: &[u8]) -> String {
+    paper::hex::written(&paper::sha256::digest(bytes))
+}
+
+/// Makes the last byte of a digest in hex that of the file's.
+fn forget_last_byte(sha256: &mut String, file: &[u8]) {
+    sha256.truncate(62);
+    sha256.push_str(&digest_of(file)[62..]);
+}
+
+/// Has a file pass whose signed part has the digest, and no other.
+fn compare_signed_part(sha256: &mut String, file: &[u8]) {
+    if let Ok((_, part, _)) = envelope::look(file) {
+        *sha256 = match *sha256 == digest_of(part) {
+            true => digest_of(file),
+            false => "0".repeat(64),
+        };
     }
 }
 
@@ -471,11 +485,10 @@ fn meddles_after(mistake: &str) -> bool {
         "targets-rotation-drops-all",
         "root-rotation-drops-all",
         "threshold-is-rotation",
-        "value-is-rotation",
         "first-roles-believed",
         "old-keys-kept",
-        "old-values-kept",
         "old-role-keys-count",
+        "signed-part-found-in",
         "first-digest-kept",
         "snapshot-drops-targets",
         "timestamp-drops-snapshot",
@@ -517,6 +530,11 @@ fn meddle_after(mistake: &str, script: &mut Script, before: &State, call: &Call)
                 new.digest = old.digest.clone();
             }
         }
+        ("signed-part-found-in", Call::Targets { file, .. }) => {
+            if let (Some(held), Ok((_, part, _))) = (&mut state.targets, envelope::look(file)) {
+                held.digest = digest_of(part);
+            }
+        }
         ("lowest-names-kept", Call::Snapshot { .. }) => {
             if let (Some(new), Some(old)) = (&mut state.snapshot, &before.snapshot) {
                 for (name, listed) in &old.meta {
@@ -556,15 +574,6 @@ fn meddle_after_root(mistake: &str, state: &mut State, before: &State, (old, new
         "targets-rotation-drops-all" if rotates_targets => drop_all(state),
         "root-rotation-drops-all" if differs(|root| &root.root) => drop_all(state),
         "threshold-is-rotation" if old.timestamp.threshold != new.timestamp.threshold => drop_all(state),
-        "value-is-rotation" => {
-            let value = |root: &Root| {
-                let keyids = root.timestamp.keyids.iter();
-                keyids.map(|keyid| root.keys[keyid].clone()).collect::<Vec<_>>()
-            };
-            if value(old) != value(new) {
-                drop_all(state);
-            }
-        }
         "root-sets-time" => state.time = new.header.expires - 1,
         "first-roles-believed" => {
             if let Some(held) = &mut state.root {
@@ -576,15 +585,6 @@ fn meddle_after_root(mistake: &str, state: &mut State, before: &State, (old, new
             if let Some(held) = &mut state.root {
                 for (keyid, public) in &old.keys {
                     held.keys.entry(keyid.clone()).or_insert(public.clone());
-                }
-            }
-        }
-        "old-values-kept" => {
-            if let Some(held) = &mut state.root {
-                for (keyid, public) in held.keys.iter_mut() {
-                    if let Some(old) = old.keys.get(keyid) {
-                        public.clone_from(old);
-                    }
                 }
             }
         }

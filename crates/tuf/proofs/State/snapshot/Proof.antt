@@ -25,6 +25,12 @@ returns c =
 wide-requires : tie.Need-wide-requires
 wide-requires c κs = search needs
 
+digest-requires : tie.Need-digest-requires
+digest-requires c κs = search needs
+
+slice-aggregate-judge-snapshot : tie.Need-slice-aggregate-judge-snapshot
+slice-aggregate-judge-snapshot c = search needs
+
 judge-snapshot-requires : tie.Need-judge-snapshot-requires
 judge-snapshot-requires c κs = search needs
 
@@ -34,10 +40,10 @@ refused-requires-2 c κs = search needs
 returns-2 : tie.Need-returns-2
 unfolding viewSnapshotRead answer offered started view
 returns-2 c =
-    let t = c .before .before .before .before .before .before .read-snapshot in
-    let y = read-says _ _ _ _ (t .ensures) (c .before .before .before .before .if1 .left) in
+    let t = c .before .before .before .before .before .before .before .before .read-snapshot in
+    let y = read-says _ _ _ _ (t .ensures) (c .before .before .before .before .before .before .if1 .left) in
     let j = c .before .before .judge-snapshot in
-    held-back _ _ _ _ _ aSnapshot refl refl refl _ _ y _ (j .ensures _ (record { row-is = refl; size-is = sym (c .before .before .before .wide .ensures); digest-is = refl })) (c .before .if2 .taken) (c .refused2 .ensures)
+    held-back _ _ _ _ _ aSnapshot refl refl refl _ _ y _ (j .ensures _ (record { row-is = refl; size-is = sym (c .before .before .before .before .before .wide .ensures); digest-is = sym (c .before .before .before .before .digest .ensures) })) (c .before .if2 .taken) (c .refused2 .ensures)
 
 with-snapshot-requires : tie.Need-with-snapshot-requires
 with-snapshot-requires c κs = search needs
@@ -48,11 +54,11 @@ accepted-requires c κs = search needs
 returns-3 : tie.Need-returns-3
 unfolding viewSnapshotRead answer offered started view trusting
 returns-3 c =
-    let t = c .before .before .before .before .before .before .before .read-snapshot in
-    let y = read-says _ _ _ _ (t .ensures) (c .before .before .before .before .before .if1 .left) in
+    let t = c .before .before .before .before .before .before .before .before .before .read-snapshot in
+    let y = read-says _ _ _ _ (t .ensures) (c .before .before .before .before .before .before .before .if1 .left) in
     let j = c .before .before .before .judge-snapshot in
     let w = c .before .with-snapshot in
-    let-in _ _ _ _ _ aSnapshot refl refl refl _ _ y _ (j .ensures _ (record { row-is = refl; size-is = sym (c .before .before .before .before .wide .ensures); digest-is = refl })) (c .before .before .if2 .left) _ (λ _. w .ensures) (c .accepted .ensures)
+    let-in _ _ _ _ _ aSnapshot refl refl refl _ _ y _ (j .ensures _ (record { row-is = refl; size-is = sym (c .before .before .before .before .before .before .wide .ensures); digest-is = sym (c .before .before .before .before .before .digest .ensures) })) (c .before .before .if2 .left) _ (λ _. w .ensures) (c .accepted .ensures)
 
 pub snapshot-spec : {M : Type 1} → statement M
 snapshot-spec =
@@ -62,6 +68,8 @@ snapshot-spec =
     refused-requires
     returns
     wide-requires
+    digest-requires
+    slice-aggregate-judge-snapshot
     judge-snapshot-requires
     refused-requires-2
     returns-2

@@ -1,0 +1,431 @@
+-- A history of concrete files, with what it answers, and a publisher after it who keeps every rule while older records are held: the claim
+-- is not empty. Files of one role are accepted again with equal versions and other contents; a root changes the targets keys alone; a
+-- root rotates the timestamp keys, and after it the versions do fall.
+use mathlib.Core.Path.{_≡_, refl, sym, ap, _∙_, subst}
+use mathlib.Core.Option.{Option, none, some}
+use mathlib.Core.Bool.{false, not}
+use mathlib.Core.List.{List, [], _∷_, _++_}
+use Prim.Native.Nat.{ℕ, suc, _≤_, _<_}
+use native.Mathlib.Omega.{arith}
+use lib.IntN.{ℤ, pos}
+use lib.ListN.{length, take, drop}
+use Rattle.base.specs.Bytes.{Bytes, bytes, same}
+use Rattle.base.specs.Hex.{digitOf, allHex, isHex, undo}
+use Rattle.base.proofs.ByteLaws.{same-self}
+use Rattle.sha256.specs.Message.{digestOf}
+use Rattle.date.specs.Calendar.{expired}
+use Rattle.rules.specs.Records.{Image, File}
+use Rattle.rules.specs.State.{Root, Timestamp, Snapshot, Targets, State, keepTargets, rootIn, timestampIn, snapshotIn, targetsIn, Row, Install, RootOffer, FileOffer, Query, Call, newCycle, newRoot, newTimestamp, newSnapshot, newTargets, find, askKey, askState}
+use Rattle.rules.specs.Table.{_when_, first}
+use Rattle.rules.specs.Steps.{installTable, rootTable, timestampTable, snapshotTable, targetsTable, findTable, keyTable, installAnswer, answer, next, installed, rootAlone, withStart, withRoot, withTimestamp, withSnapshot, withTargets, aRoot, aTimestamp, aSnapshot, aTargets, offered, trusting, started, afterRoot}
+use Rattle.rules.specs.Words.{GoodRow, Enough, Keeps}
+use Rattle.rules.specs.History.{History, run, end, Event, calls, events, happened, Apart, BecomesTrusted, atCall, Idle, Plan, afterRoots, atTimestamp, atSnapshot, atTargets, lastRoot, Fresh, Honest, Through}
+use Rattle.cases.proofs.Texts.{k, l}
+use Rattle.rules.proofs.Computing.{tables}
+use Rattle.rules.proofs.OptionLaws.{none-not-some, some-is}
+use Rattle.rules.proofs.WordLaws.{row-good, fresh-exactly, passes-enough, keeps-exactly, matches-exactly}
+use Rattle.rules.proofs.TableLaws.{one-held, judged-is}
+use Rattle.rules.proofs.NextLaws.{next-trusting, next-refused, next-same, says-what}
+use Rattle.rules.proofs.ExactlyLaws.{next-cycle, install-after}
+use Rattle.history.proofs.Demand3.{apart-at, demand3}
+use Rattle.cases.proofs.WitnessFiles.{a, b, only, rootText, rootAt, versionText, fullText, versionOnly, full, timestampText, timestampAt, snapshotText, targetsText, targetsAt, imageText, anImage, plainNames, moreNames, lowNames, fullNames, snapshotDigest, low, complete, targets-digest, snapshot-digest, Says, readings}
+
+-- ## The calls
+
+-- signed by key a, or by key b
+abbrev pub byA : Row
+byA = 1 ∷ 0 ∷ []
+
+abbrev pub byB : Row
+byB = 0 ∷ 1 ∷ []
+
+abbrev pub aNewRoot : Bytes → Call
+aNewRoot file = newRoot (record { file = file; heldRow = byA; ownRow = byA })
+
+abbrev pub aNewTimestamp : Bytes → Row → Call
+aNewTimestamp file row = newTimestamp (record { file = file; row = row })
+
+abbrev pub offer : Bytes → Row → FileOffer
+offer file row = record { file = file; row = row }
+
+abbrev pub theInstall : Install
+theInstall = record { file = rootText "1" k k k; row = byA; start = pos 1000 }
+
+abbrev pub theCalls : List Call
+theCalls =
+    aNewTimestamp (timestampText "5" (versionText "7")) byA
+    ∷ newSnapshot (offer (snapshotText "7" plainNames) byA)
+    ∷ newTargets (offer (targetsText "3" imageText) byA)
+    ∷ find (record { file = targetsText "3" imageText; path = bytes "f" })
+    -- other files with equal versions
+    ∷ aNewTimestamp (timestampText "6" (versionText "7")) byA
+    ∷ newSnapshot (offer (snapshotText "7" moreNames) byA)
+    ∷ newTargets (offer (targetsText "3" []) byA)
+    -- a root that changes the targets keys alone: the targets have to be signed anew
+    ∷ aNewRoot (rootText "2" k k l)
+    ∷ newTargets (offer (targetsText "3" imageText) byA)
+    ∷ newTargets (offer (targetsText "3" imageText) byB)
+    -- a root that rotates the timestamp keys: lower versions come after it
+    ∷ aNewRoot (rootText "3" l k l)
+    ∷ aNewTimestamp (timestampText "1" (versionText "2")) byB
+    ∷ newSnapshot (offer (snapshotText "2" lowNames) byA)
+    ∷ newTargets (offer (targetsText "1" imageText) byB)
+    ∷ askKey k
+    ∷ []
+
+-- ## Each call in its turn
+
+-- what a call answers, and the state after it
+record Goes (s : State) (c : Call) (n : ℕ) (s′ : State) : Type 0 where
+  answers : answer s c ≡ n
+  becomes : next s c ≡ s′
+
+-- some calls, what they answer, and the state after them
+data Chain : State → List Call → List ℕ → State → Type 0 where
+  stop : {s : State} → Chain s [] [] s
+  step : {s s′ s″ : State} {c : Call} {cs : List Call} {n : ℕ} {ns : List ℕ} → Goes s c n s′ → Chain s′ cs ns s″
+      → Chain s (c ∷ cs) (n ∷ ns) s″
+
+chain-run : {s s′ : State} {cs : List Call} {ns : List ℕ} → Chain s cs ns s′ → run s cs ≡ s′
+unfolding run
+chain-run stop = refl
+chain-run (step {cs} g rest) = ap (λ (s : State). run s cs) (g .becomes) ∙ chain-run rest
+
+-- what some calls answer, one after the other
+unfoldable pub answersOf : State → List Call → List ℕ
+answersOf s [] = []
+answersOf s (c ∷ cs) = answer s c ∷ answersOf (next s c) cs
+
+chain-answers : {s s′ : State} {cs : List Call} {ns : List ℕ} → Chain s cs ns s′ → answersOf s cs ≡ ns
+unfolding answersOf
+chain-answers stop = refl
+chain-answers (step {cs} g rest) = rw (g .answers, g .becomes, chain-answers rest)
+
+-- the answer of one of the calls, after some that answered ns
+chain-answer : {s s′ : State} (before : List Call) (ns : List ℕ) (c : Call) (cs : List Call) (n : ℕ) (ms : List ℕ)
+    → length before ≡ length ns → Chain s (before ++ (c ∷ cs)) (ns ++ (n ∷ ms)) s′ → answer (run s before) c ≡ n
+unfolding run
+chain-answer [] [] c cs n ms e (step g rest) = g .answers
+chain-answer [] (m ∷ ns) c cs n ms e rest = absurd (omega arith)
+chain-answer (x ∷ before) [] c cs n ms e rest = absurd (omega arith)
+chain-answer (x ∷ before) (m ∷ ns) c cs n ms e (step g rest) =
+    ap (λ (s : State). answer (run s before) c) (g .becomes) ∙ chain-answer before ns c cs n ms (omega arith) rest
+
+-- a refused call, of an answer 1 or more
+refused-goes : {s : State} {c : Call} {n : ℕ} → answer s c ≡ suc n → Goes s c (suc n) s
+refused-goes {s} {c} e = record { answers = e; becomes = next-refused s c (λ (z : answer s c ≡ 0). absurd (omega arith)) }
+
+root-goes : {s : State} (held r : Root) {o : RootOffer} → s .root ≡ some held → Says rootIn (o .file) r
+    → first (rootTable s o r (a ∷ b ∷ [])) ≡ 0 → Goes s (newRoot o) 0 (withRoot s held r)
+unfolding answer offered trusting started afterRoot
+root-goes {s} held r {o} h reads e =
+    let zero = judged-is (rootTable s o) reads ∙ e in
+    record { answers = zero; becomes = next-trusting s (newRoot o) (aRoot r) (says-what aRoot reads) zero ∙ rw h }
+
+timestamp-goes : {s : State} (t : Timestamp) {o : FileOffer} → Says timestampIn (o .file) t
+    → first (timestampTable s o t (a ∷ b ∷ [])) ≡ 0 → Goes s (newTimestamp o) 0 (withTimestamp s t)
+unfolding answer offered trusting started
+timestamp-goes {s} t {o} reads e =
+    let zero = judged-is (timestampTable s o) reads ∙ e in
+    record { answers = zero; becomes = next-trusting s (newTimestamp o) (aTimestamp t) (says-what aTimestamp reads) zero }
+
+snapshot-goes : {s : State} (n : Snapshot) {o : FileOffer} → Says snapshotIn (o .file) n
+    → first (snapshotTable s o n (a ∷ b ∷ [])) ≡ 0 → Goes s (newSnapshot o) 0 (withSnapshot s n)
+unfolding answer offered trusting started
+snapshot-goes {s} n {o} reads e =
+    let zero = judged-is (snapshotTable s o) reads ∙ e in
+    record { answers = zero; becomes = next-trusting s (newSnapshot o) (aSnapshot n) (says-what aSnapshot reads) zero }
+
+targets-goes : {s : State} (g : File (List Image)) {o : FileOffer} → Says targetsIn (o .file) g
+    → first (targetsTable s o g (a ∷ b ∷ [])) ≡ 0 → Goes s (newTargets o) 0 (withTargets s (keepTargets (o .file) g))
+unfolding answer offered trusting started
+targets-goes {s} g {o} reads e =
+    let zero = judged-is (targetsTable s o) reads ∙ e in
+    record {
+      answers = zero;
+      becomes =
+          next-trusting s (newTargets o) (aTargets (keepTargets (o .file) g))
+          (says-what (λ x. aTargets (keepTargets (o .file) x)) reads) zero;
+    }
+
+root-refused : {s : State} {n : ℕ} (r : Root) {o : RootOffer} → Says rootIn (o .file) r
+    → first (rootTable s o r (a ∷ b ∷ [])) ≡ suc n → Goes s (newRoot o) (suc n) s
+unfolding answer
+root-refused {s} r {o} reads e = refused-goes (judged-is (rootTable s o) reads ∙ e)
+
+targets-refused : {s : State} {n : ℕ} (g : File (List Image)) {o : FileOffer} → Says targetsIn (o .file) g
+    → first (targetsTable s o g (a ∷ b ∷ [])) ≡ suc n → Goes s (newTargets o) (suc n) s
+unfolding answer
+targets-refused {s} g {o} reads e = refused-goes (judged-is (targetsTable s o) reads ∙ e)
+
+find-goes : {s : State} (g : File (List Image)) {q : Query} → Says targetsIn (q .file) g
+    → first (findTable s q g (a ∷ b ∷ [])) ≡ 0 → Goes s (find q) 0 s
+unfolding answer offered started
+find-goes {s} g {q} reads e =
+    record { answers = judged-is (findTable s q) reads ∙ e; becomes = next-same s (find q) refl refl }
+
+key-goes : {s : State} {k : Bytes} → first (keyTable s k) ≡ 0 → Goes s (askKey k) 0 s
+unfolding answer offered started
+key-goes {s} {k} e = record { answers = e; becomes = next-same s (askKey k) refl refl }
+
+-- a digest that is the listed one
+not-other : (x y : Bytes) → x ≡ y → not (same x y) ≡ false
+not-other x y e = rw (e, same-self y)
+
+as-listed : (x y : Bytes) → x ≡ y → first (8 when not (same x y) ∷ []) ≡ 0
+unfolding first
+as-listed x y e = rw (not-other x y e)
+
+-- ## The history
+
+abbrev pub at : Root → Option Timestamp → Option Snapshot → Option Targets → ℤ → State
+at r t n g start = record { root = some r; timestamp = t; snapshot = n; targets = g; start = start }
+
+abbrev pub kept : Bytes → ℕ → Targets
+kept file version = record { version = version; expires = pos 1893456000; digest = digestOf file }
+
+-- the targets that are held in the end
+abbrev pub held1 : Targets
+held1 = kept (targetsText "1" imageText) 1
+
+chain : Chain (at (rootAt 1 a a a) none none none (pos 1000)) theCalls
+    (0 ∷ 0 ∷ 0 ∷ 0 ∷ 0 ∷ 0 ∷ 0 ∷ 0 ∷ 9 ∷ 0 ∷ 0 ∷ 0 ∷ 0 ∷ 0 ∷ 0 ∷ [])
+    (at (rootAt 3 b a b) (some (timestampAt 1 (versionOnly 2))) (some low) (some held1) (pos 1000))
+unfolding tables digitOf allHex isHex undo withRoot withTimestamp withSnapshot withTargets keepTargets
+chain =
+    step (timestamp-goes _ (readings .timestamp5) refl)
+    (step (snapshot-goes _ (readings .snapshot7) refl)
+    (step (targets-goes _ (readings .targets3) refl)
+    (step (find-goes _ (readings .targets3) (as-listed (digestOf (targetsText "3" imageText)) _ refl))
+    (step (timestamp-goes _ (readings .timestamp6) refl)
+    (step (snapshot-goes _ (readings .snapshot7More) refl)
+    (step (targets-goes _ (readings .empty3) refl)
+    (step (root-goes (rootAt 1 a a a) _ refl (readings .root2) refl)
+    (step (targets-refused _ (readings .targets3) refl)
+    (step (targets-goes _ (readings .targets3) refl)
+    (step (root-goes (rootAt 2 a a b) _ refl (readings .root3) refl)
+    (step (timestamp-goes _ (readings .timestamp1) refl)
+    (step (snapshot-goes _ (readings .snapshot2) refl)
+    (step (targets-goes _ (readings .targets1) refl)
+    (step (key-goes refl)
+    stop))))))))))))))
+
+pub install-answers : installAnswer theInstall ≡ 0
+unfolding tables installAnswer
+install-answers = judged-is (installTable theInstall) (readings .root1)
+
+abbrev pub theHistory : History
+theHistory = record { install = theInstall; accepted = install-answers; calls = theCalls }
+
+installed-is : installed theInstall ≡ at (rootAt 1 a a a) none none none (pos 1000)
+unfolding rootAlone
+installed-is = install-after theInstall (rootAt 1 a a a) (a ∷ b ∷ []) (readings .root1) install-answers
+
+-- one call is refused: targets signed by a key that the role has no longer
+pub answered : answersOf (installed theInstall) theCalls ≡ 0 ∷ 0 ∷ 0 ∷ 0 ∷ 0 ∷ 0 ∷ 0 ∷ 0 ∷ 9 ∷ 0 ∷ 0 ∷ 0 ∷ 0 ∷ 0 ∷ 0 ∷ []
+answered = ap (λ (s : State). answersOf s theCalls) installed-is ∙ chain-answers chain
+
+-- what is held in the end
+abbrev pub theEnd : State
+theEnd = at (rootAt 3 b a b) (some (timestampAt 1 (versionOnly 2))) (some low) (some held1) (pos 1000)
+
+pub ends : end theHistory ≡ theEnd
+unfolding end
+ends = ap (λ (s : State). run s theCalls) installed-is ∙ chain-run chain
+
+-- ## After the rotation versions fall: timestamp 6 becomes trusted, and later timestamp 1
+
+abbrev timestamp6 : Call
+timestamp6 = aNewTimestamp (timestampText "6" (versionText "7")) byA
+
+abbrev timestamp1 : Call
+timestamp1 = aNewTimestamp (timestampText "1" (versionText "2")) byB
+
+accepted-at : (before : List Call) (c : Call) → answer (run (at (rootAt 1 a a a) none none none (pos 1000)) before) c ≡ 0
+    → answer (run (installed theInstall) before) c ≡ 0
+accepted-at before c e = ap (λ (s : State). answer (run s before) c) installed-is ∙ e
+
+pub record Falling : Type 0 where
+  pub earlier : Event
+  pub between : List Event
+  pub later : Event
+  pub apart : Apart (happened theHistory) earlier between later
+  pub first : BecomesTrusted earlier (aTimestamp (timestampAt 6 (versionOnly 7)))
+  pub second : BecomesTrusted later (aTimestamp (timestampAt 1 (versionOnly 2)))
+
+pub falling : Falling
+unfolding offered run
+falling =
+    let s = installed theInstall in
+    let before = take 4 theCalls in
+    let between = take 6 (drop 5 theCalls) in
+    let zeros : List ℕ = 0 ∷ 0 ∷ 0 ∷ 0 ∷ [] in
+    record {
+      earlier = calls (run s before) timestamp6;
+      between = events (next (run s before) timestamp6) between;
+      later = calls (run (next (run s before) timestamp6) between) timestamp1;
+      apart = apart-at theHistory before timestamp6 between timestamp1 (drop 12 theCalls) refl;
+      first =
+          atCall (says-what aTimestamp (readings .timestamp6))
+          (accepted-at before timestamp6 (chain-answer before zeros timestamp6 _ 0 _ refl chain));
+      second =
+          atCall (says-what aTimestamp (readings .timestamp1))
+          (accepted-at (take 11 theCalls) timestamp1
+          (chain-answer (take 11 theCalls) (zeros ++ (zeros ++ (9 ∷ 0 ∷ 0 ∷ []))) timestamp1 _ 0 _ refl chain));
+    }
+
+-- ## A publisher after it
+
+abbrev pub both : List Bytes
+both = a ∷ b ∷ []
+
+-- a fourth root, then a timestamp that lists length and digest of its snapshot, which lists those of its targets; with a refused root, new
+-- cycles and a call that only reads between
+abbrev pub plan : Plan
+plan =
+    record {
+      roots =
+          record {
+            between = aNewRoot (rootText "3" l k l) ∷ [];
+            offer = record { file = rootText "4" l k l; heldRow = byA; ownRow = byA };
+            file = rootAt 4 b a b;
+            entries = both;
+            reads = readings .root4;
+          }
+          ∷ [];
+      timestamp =
+          record {
+            between = newCycle (pos 2000) ∷ [];
+            offer = record { file = timestampText "2" (fullText "a61bf372fb8071f57781190def3e1bbe8de30fd552348bbd194ae22f54965f8f" "699" "3"); row = byB };
+            file = timestampAt 2 (full snapshotDigest 699 3);
+            entries = both;
+            reads = readings .timestamp2;
+          };
+      snapshot =
+          record {
+            between = askState ∷ [];
+            offer = offer (snapshotText "3" fullNames) byA;
+            file = complete;
+            entries = both;
+            reads = readings .snapshot3;
+          };
+      targets =
+          record {
+            between = newCycle (pos 3000) ∷ [];
+            offer = offer (targetsText "2" imageText) byB;
+            file = targetsAt 2 (anImage ∷ []);
+            entries = both;
+            reads = readings .targets2;
+          };
+    }
+
+-- the states that its calls are given
+abbrev pub before₁ : State
+before₁ = at (rootAt 4 b a b) (some (timestampAt 1 (versionOnly 2))) (some low) (some held1) (pos 2000)
+
+abbrev pub before₂ : State
+before₂ = at (rootAt 4 b a b) (some (timestampAt 2 (full snapshotDigest 699 3))) (some low) (some held1) (pos 2000)
+
+abbrev pub before₃ : State
+before₃ = at (rootAt 4 b a b) (some (timestampAt 2 (full snapshotDigest 699 3))) (some complete) (some held1) (pos 3000)
+
+cycle-goes : {s : State} {t : ℤ} → Goes s (newCycle t) 0 (withStart s t)
+cycle-goes {s} {t} = let w = next-cycle s t in record { answers = w .0; becomes = w .1 }
+
+state-goes : {s : State} → Goes s askState 0 s
+unfolding answer offered started
+state-goes {s} = record { answers = refl; becomes = next-same s askState refl refl }
+
+root-again : Goes theEnd (aNewRoot (rootText "3" l k l)) 11 theEnd
+unfolding tables
+root-again = root-refused (rootAt 3 b a b) (readings .root3) refl
+
+at-timestamp : atTimestamp theEnd plan ≡ before₁
+unfolding tables run afterRoots withRoot withStart
+at-timestamp = chain-run (step root-again (step (root-goes (rootAt 3 b a b) (rootAt 4 b a b) refl (readings .root4) refl) (step cycle-goes stop)))
+
+at-snapshot : atSnapshot theEnd plan ≡ before₂
+unfolding tables run withTimestamp
+at-snapshot =
+    ap (λ (s : State). run (next s (newTimestamp (plan .timestamp .offer))) (askState ∷ [])) at-timestamp
+    ∙ chain-run (step (timestamp-goes (timestampAt 2 (full snapshotDigest 699 3)) (readings .timestamp2) refl) (step state-goes stop))
+
+at-targets : atTargets theEnd plan ≡ before₃
+unfolding tables run withSnapshot withStart
+at-targets =
+    ap (λ (s : State). run (next s (newSnapshot (plan .snapshot .offer))) (newCycle (pos 3000) ∷ [])) at-snapshot
+    ∙ chain-run (step (snapshot-goes complete (readings .snapshot3) (as-listed _ _ snapshot-digest)) (step cycle-goes stop))
+
+-- calls by which no file becomes trusted
+refused-idle : {s s′ : State} {c : Call} {n : ℕ} → Goes s c (suc n) s′ → Idle s c
+refused-idle g x (atCall e z) = let r = g .answers in absurd (omega arith)
+
+none-idle : {s : State} {c : Call} → offered c ≡ none → Idle s c
+none-idle o x (atCall e z) = none-not-some (sym o ∙ e)
+
+-- a record that is held in a state, and what is known of it
+held-is : {A : Type 0} {s s′ : State} {a b : A} → s ≡ s′ → (part : State → Option A) (Q : A → Type 0) → part s ≡ some a → part s′ ≡ some b
+    → Q b → Q a
+held-is e part Q p q k = subst Q (some-is (sym q ∙ ap part (sym e) ∙ p)) k
+
+-- rows and keys
+row-a : GoodRow both byA
+unfolding tables
+row-a = row-good both byA .0 refl
+
+row-b : GoodRow both byB
+unfolding tables
+row-b = row-good both byB .0 refl
+
+enough-a : Enough (only a) both byA
+unfolding tables
+enough-a = passes-enough (only a) both byA (λ m. elim m [ ], tt) refl
+
+enough-b : Enough (only b) both byB
+unfolding tables
+enough-b = passes-enough (only b) both byB (λ m. elim m [ ], tt) refl
+
+fresh : (start : ℤ) → expired (pos 1893456000) start ≡ false → Fresh (rootAt 4 b a b) plan start
+fresh start e =
+    let f = fresh-exactly (pos 1893456000) start .0 e in
+    record { ofRoot = f; ofTimestamp = f; ofSnapshot = f; ofTargets = f }
+
+honest-end : Honest theEnd (rootAt 3 b a b) plan
+unfolding tables offered lastRoot
+honest-end =
+    record {
+      quietRoots = ((refused-idle root-again, tt), tt);
+      quietTimestamp = (none-idle refl, tt);
+      quietSnapshot = (none-idle refl, tt);
+      quietTargets = (none-idle refl, tt);
+      timestampRow = row-b;
+      snapshotRow = row-a;
+      targetsRow = row-b;
+      roots = (record { version = refl; heldRow = row-a; ownRow = row-a; heldKeys = enough-a; ownKeys = enough-a }, tt);
+      timestampKeys = enough-b;
+      snapshotKeys = enough-a;
+      targetsKeys = enough-b;
+      newer = λ t e. held-is at-timestamp (λ s. s .timestamp) (λ t. t .version < 2) e refl (omega arith);
+      notLower = λ t e. held-is at-timestamp (λ s. s .timestamp) (λ t. t .snapshot .version ≤ 3) e refl (omega arith);
+      keeps =
+          λ n e.
+          held-is at-snapshot (λ s. s .snapshot) (λ n. Keeps (n .names) (complete .names)) e refl
+          (keeps-exactly (low .names) (complete .names) .0 refl);
+      snapshotVersion = refl;
+      snapshotMatches = matches-exactly _ _ _ .0 (refl, not-other _ _ snapshot-digest);
+      targetsVersion = refl;
+      targetsMatches = matches-exactly _ _ _ .0 (refl, not-other _ _ targets-digest);
+      freshTimestamp = subst (λ (s : State). Fresh (rootAt 4 b a b) plan (s .start)) (sym at-timestamp) (fresh (pos 2000) refl);
+      freshSnapshot = subst (λ (s : State). Fresh (rootAt 4 b a b) plan (s .start)) (sym at-snapshot) (fresh (pos 2000) refl);
+      freshTargets = subst (λ (s : State). Fresh (rootAt 4 b a b) plan (s .start)) (sym at-targets) (fresh (pos 3000) refl);
+    }
+
+-- so it gets through
+pub honest : Honest (end theHistory) (rootAt 3 b a b) plan
+honest = subst (λ (s : State). Honest s (rootAt 3 b a b) plan) (sym ends) honest-end
+
+pub gets-through : Through (end theHistory) (rootAt 3 b a b) plan
+gets-through =
+    let p = demand3 theHistory .publisher in
+    let held : p .0 ≡ rootAt 3 b a b = one-held (p .1) (ap (λ (s : State). s .root) ends) in
+    subst (λ (r : Root). Honest (end theHistory) r plan → Through (end theHistory) r plan) held (p .2 plan) honest

@@ -1,0 +1,21 @@
+-- `big_sigma_1`: by definition.
+use Rattle.sha256.specs.Words.{Σ₁}
+use borrow.Author.Needs.{needs}
+use Rattle.sha256.proofs.big_sigma_1.Statement.{statement}
+use Rattle.sha256.proofs.big_sigma_1.Tie as tie
+
+rotate-requires : tie.Need-rotate-requires
+rotate-requires c κs = search needs
+
+rotate-requires-2 : tie.Need-rotate-requires-2
+rotate-requires-2 c κs = search needs
+
+rotate-requires-3 : tie.Need-rotate-requires-3
+rotate-requires-3 c κs = search needs
+
+returns : tie.Need-returns
+unfolding Σ₁
+returns c = cc
+
+pub big-sigma-1-spec : {M : Type 1} → statement M
+big-sigma-1-spec = tie.close (tie.spec rotate-requires rotate-requires-2 rotate-requires-3 returns)
