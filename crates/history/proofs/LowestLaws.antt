@@ -3,7 +3,6 @@
 use mathlib.Core.Path.{_≡_, refl}
 use mathlib.Core.Logic.{_↔_, _⊎_, inl, inr}
 use mathlib.Core.Bool.{Bool, true, false, cond}
-use mathlib.Core.Option.{Option, none, some}
 use mathlib.Core.List.{List, [], _∷_, List·Memᴰ, List·Memᴰ·head, List·Memᴰ·tail}
 use Prim.Native.Nat.{ℕ, _≤_, _<_}
 use native.Mathlib.Omega.{arith}
@@ -13,17 +12,17 @@ use lib.ListN.{length}
 use borrow.Author.Tests.{leb-true, le-leb}
 use Rattle.base.specs.Bytes.{Bytes, bytes}
 use Rattle.base.proofs.TestLaws.{never, both}
-use Rattle.json.specs.Json.{Json}
 use Rattle.rules.specs.Limits.{maxFile}
 use Rattle.rules.specs.Records as records
 use Rattle.rules.specs.Records.{File, Fault, tooLong, notText, badForm, otherKeyid, otherSpec, Read, refused, says}
-use Rattle.rules.specs.Forms.{Envelope, envelope, knownSpec, fileOf, root, rootKeyids}
-use Rattle.rules.specs.Reading.{parsed, judgedText, readWith, keyidsOf, known, spoken, inEnvelope, readAs, readRoot}
+use Rattle.rules.specs.Forms.{knownSpec, root, rootKeyids}
+use Rattle.rules.specs.Reading.{judgedText, readWith, keyidsOf, known, spoken, inEnvelope, readAs, readRoot}
 use Rattle.rules.specs.State.{keepRoot, kept, rootIn, timestampIn, snapshotIn, targetsIn}
 use Rattle.rules.specs.Table.{Refusal, _when_, first}
 use Rattle.rules.specs.Steps.{installTable, rootTable, timestampTable, snapshotTable, targetsTable, findTable, keyTable, faultNumber, judged, installAnswer, answer}
 use Rattle.rules.specs.Asked.{imageTable, imageAnswer}
 use Rattle.rules.specs.Lowest.{LowestOf, noneHolds, holds, Judgement, unread, judges, OtherKeyid, Lowest}
+use Rattle.rules.proofs.ReadingLaws.{Formed, Outcome, unformed, formed, outcome}
 use Rattle.rules.proofs.TableLaws.{rising}
 
 -- no line has a number below m
@@ -75,37 +74,29 @@ judgement (says a es) table t = judges refl (none-below 5 (table a es) (t a es))
 
 sixteen : (file : Bytes) → (rootIn file ≡ refused otherKeyid) ↔ OtherKeyid file
 unfolding rootIn readRoot readAs readWith judgedText inEnvelope spoken known kept
-sixteen file = (there, back)
+sixteen file = (λ h. go (outcome (bytes "root") root rootKeyids file) h, back)
   where
-    knows : (v : Json) (e : Envelope) (f : File records.Root) → length file ≤ maxFile → parsed file ≡ some v → envelope v ≡ some e
-        → fileOf (bytes "root") root (e .signed) ≡ some f → (own : Bool) → rootKeyids (e .signed) ≡ own → (b : Bool)
-        → kept keepRoot (cond own (cond b (says f (keyidsOf (e .entries))) (refused otherSpec)) (refused otherKeyid)) ≡ refused otherKeyid
+    knows : (w : Formed (bytes "root") root file) (own : Bool) → rootKeyids (w .envelope-is .signed) ≡ own → (b : Bool)
+        → kept keepRoot (cond own (cond b (says (w .contents) (keyidsOf (w .envelope-is .entries))) (refused otherSpec)) (refused otherKeyid))
+        ≡ refused otherKeyid
         → OtherKeyid file
-    knows v e f l p q r true o true h = never (cc)
-    knows v e f l p q r true o false h = never (cc)
-    knows v e f l p q r false o b h =
-        record { value = v; envelope-is = e; says = f; fits = l; text = p; opens = q; form = r; broken = o }
+    knows w true o true h = never (cc)
+    knows w true o false h = never (cc)
+    knows w false o b h =
+        record {
+          value = w .value;
+          envelope-is = w .envelope-is;
+          says = w .contents;
+          fits = w .fits;
+          text = w .text;
+          opens = w .form;
+          form = w .role;
+          broken = o;
+        }
 
-    speaks : (v : Json) (e : Envelope) → length file ≤ maxFile → parsed file ≡ some v → envelope v ≡ some e
-        → (o : Option (File records.Root)) → fileOf (bytes "root") root (e .signed) ≡ o
-        → kept keepRoot (spoken e (rootKeyids (e .signed)) o) ≡ refused otherKeyid → OtherKeyid file
-    speaks v e l p q none r h = never (cc)
-    speaks v e l p q (some f) r h = knows v e f l p q r (rootKeyids (e .signed)) refl (knownSpec (f .specVersion)) h
-
-    opens : (v : Json) → length file ≤ maxFile → parsed file ≡ some v → (o : Option Envelope) → envelope v ≡ o
-        → kept keepRoot (inEnvelope (fileOf (bytes "root") root) rootKeyids o) ≡ refused otherKeyid → OtherKeyid file
-    opens v l p none q h = never (cc)
-    opens v l p (some e) q h = speaks v e l p q (fileOf (bytes "root") root (e .signed)) refl h
-
-    values : (b : Bool) → leb (length file) maxFile ≡ b → (o : Option Json) → parsed file ≡ o
-        → kept keepRoot (cond b (judgedText (λ v. inEnvelope (fileOf (bytes "root") root) rootKeyids (envelope v)) o) (refused tooLong)) ≡ refused otherKeyid
-        → OtherKeyid file
-    values true l none p h = never (cc)
-    values true l (some v) p h = opens v (leb-true (length file) maxFile l) p (envelope v) refl h
-    values false l o p h = never (cc)
-
-    there : rootIn file ≡ refused otherKeyid → OtherKeyid file
-    there h = values (leb (length file) maxFile) refl (parsed file) refl h
+    go : {rd : Read (File records.Root)} → Outcome (bytes "root") root rootKeyids file rd → kept keepRoot rd ≡ refused otherKeyid → OtherKeyid file
+    go (unformed n) h = absurd (n (cc))
+    go (formed w) h = knows w (rootKeyids (w .envelope-is .signed)) refl (knownSpec (w .contents .specVersion)) h
 
     back : OtherKeyid file → rootIn file ≡ refused otherKeyid
     back w = rw (le-leb (length file) maxFile (w .fits), w .text, w .opens, w .form, w .broken)

@@ -22,7 +22,7 @@ use Rattle.json.proofs.Puts.{put-str, put-obj, members-cons, more-members-cons}
 use Rattle.json.proofs.Slices.{put-split}
 use Rattle.rules.specs.Limits.{maxFile}
 use Rattle.base.proofs.TestLaws.{never}
-use Rattle.rules.specs.Records.{File, Fault, Read, refused, says, tooLong, otherKeyid, otherSpec}
+use Rattle.rules.specs.Records.{File, Fault, Read, refused, says, tooLong, notText, badForm, otherKeyid, otherSpec}
 use Rattle.rules.specs.Forms.{Envelope, envelope, entries, knownSpec, fileOf}
 use Rattle.rules.specs.State.{kept}
 use Rattle.rules.specs.Table.{Refusal, absent}
@@ -108,6 +108,44 @@ envelope-of file e ks h =
     step v p none q h = refused-not-says h
     step v p (some d) q h = let d-is : d ≡ e = cc in record { value = v; text = p; form = rw d-is at q }
 
+-- a file of which none of 1 to 3 holds
+pub record Formed {A : Type 0} (type : Bytes) (body : Json → Option A) (file : Bytes) : Type 0 where
+  pub value : Json
+  pub envelope-is : Envelope
+  pub contents : File A
+  pub fits : length file ≤ maxFile
+  pub text : parsed file ≡ some value
+  pub form : envelope value ≡ some envelope-is
+  pub role : fileOf type body (envelope-is .signed) ≡ some contents
+
+-- what reading a role's file comes to: one of 1 to 3, or else it is the keyids and the spec_version that decide
+pub data Outcome {A : Type 0} (type : Bytes) (body : Json → Option A) (keyids : Json → Bool) (file : Bytes) : Read (File A) → Type 0 where
+  unformed : {x : Fault} → ¬ (x ≡ otherKeyid) → Outcome type body keyids file (refused x)
+  formed : (w : Formed type body file)
+      → Outcome type body keyids file (cond (keyids (w .envelope-is .signed)) (known (w .envelope-is) (w .contents)) (refused otherKeyid))
+
+pub outcome : {A : Type 0} (type : Bytes) (body : Json → Option A) (keyids : Json → Bool) (file : Bytes)
+    → Outcome type body keyids file (readAs type body keyids file)
+unfolding readAs readWith judgedText inEnvelope spoken
+outcome {A} type body keyids file = values (leb (length file) maxFile) refl (parsed file) refl
+  where
+    speaks : (v : Json) (e : Envelope) → length file ≤ maxFile → parsed file ≡ some v → envelope v ≡ some e
+        → (o : Option (File A)) → fileOf type body (e .signed) ≡ o → Outcome type body keyids file (spoken e (keyids (e .signed)) o)
+    speaks v e l p q none r = unformed {x = badForm} (λ (z : badForm ≡ otherKeyid). never (cc))
+    speaks v e l p q (some g) r =
+        formed (record { value = v; envelope-is = e; contents = g; fits = l; text = p; form = q; role = r })
+
+    opens : (v : Json) → length file ≤ maxFile → parsed file ≡ some v → (o : Option Envelope) → envelope v ≡ o
+        → Outcome type body keyids file (inEnvelope (fileOf type body) keyids o)
+    opens v l p none q = unformed {x = badForm} (λ (z : badForm ≡ otherKeyid). never (cc))
+    opens v l p (some e) q = speaks v e l p q (fileOf type body (e .signed)) refl
+
+    values : (b : Bool) → leb (length file) maxFile ≡ b → (o : Option Json) → parsed file ≡ o
+        → Outcome type body keyids file (cond b (judgedText (λ v. inEnvelope (fileOf type body) keyids (envelope v)) o) (refused tooLong))
+    values true l none p = unformed {x = notText} (λ (z : notText ≡ otherKeyid). never (cc))
+    values true l (some v) p = opens v (leb-true (length file) maxFile l) p (envelope v) refl
+    values false l o p = unformed {x = tooLong} (λ (z : tooLong ≡ otherKeyid). never (cc))
+
 -- a role's file that was read
 pub record RoleFile {A : Type 0} (type : Bytes) (body : Json → Option A) (keyids : Json → Bool) (file : Bytes) (f : File A) (es : List Bytes) : Type 0 where
   pub value : Json
@@ -121,31 +159,30 @@ pub record RoleFile {A : Type 0} (type : Bytes) (body : Json → Option A) (keyi
 
 pub role-file : {A : Type 0} (type : Bytes) (body : Json → Option A) (keyids : Json → Bool) (file : Bytes) (f : File A) (es : List Bytes)
     → readAs type body keyids file ≡ says f es → RoleFile type body keyids file f es
-unfolding readAs inEnvelope spoken known
-role-file {A} type body keyids file f es h =
-    let w = value-of (λ v. inEnvelope (fileOf type body) keyids (envelope v)) file f es h in
-    opens (w .value) (w .text) (envelope (w .value)) refl (w .form)
+unfolding known
+role-file {A} type body keyids file f es h = go (outcome type body keyids file) h
   where
-    knows : (v : Json) (e : Envelope) (g : File A) → parsed file ≡ some v → envelope v ≡ some e → fileOf type body (e .signed) ≡ some g
-        → (own : Bool) → keyids (e .signed) ≡ own → (b : Bool) → knownSpec (g .specVersion) ≡ b
-        → cond own (cond b (says g (keyidsOf (e .entries))) (refused otherSpec)) (refused otherKeyid) ≡ says f es
+    knows : (w : Formed type body file) (own : Bool) → keyids (w .envelope-is .signed) ≡ own → (b : Bool) → knownSpec (w .contents .specVersion) ≡ b
+        → cond own (cond b (says (w .contents) (keyidsOf (w .envelope-is .entries))) (refused otherSpec)) (refused otherKeyid) ≡ says f es
         → RoleFile type body keyids file f es
-    knows v e g p q r true o true k h =
-        let g-is : g ≡ f = cc in
-        record { value = v; envelope-is = e; text = p; form = q; role = rw g-is at r; own = o; spec = rw g-is at k; signers = cc }
-    knows v e g p q r true o false k h = refused-not-says h
-    knows v e g p q r false o b k h = refused-not-says h
+    knows w true o true k h =
+        let f-is : w .contents ≡ f = cc in
+        record {
+          value = w .value;
+          envelope-is = w .envelope-is;
+          text = w .text;
+          form = w .form;
+          role = rw f-is at (w .role);
+          own = o;
+          spec = rw f-is at k;
+          signers = cc;
+        }
+    knows w true o false k h = refused-not-says h
+    knows w false o b k h = refused-not-says h
 
-    speaks : (v : Json) (e : Envelope) → parsed file ≡ some v → envelope v ≡ some e
-        → (o : Option (File A)) → fileOf type body (e .signed) ≡ o → spoken e (keyids (e .signed)) o ≡ says f es
-        → RoleFile type body keyids file f es
-    speaks v e p q none r h = refused-not-says h
-    speaks v e p q (some g) r h = knows v e g p q r (keyids (e .signed)) refl (knownSpec (g .specVersion)) refl h
-
-    opens : (v : Json) → parsed file ≡ some v → (o : Option Envelope) → envelope v ≡ o → inEnvelope (fileOf type body) keyids o ≡ says f es
-        → RoleFile type body keyids file f es
-    opens v p none q h = refused-not-says h
-    opens v p (some e) q h = speaks v e p q (fileOf type body (e .signed)) refl h
+    go : {rd : Read (File A)} → Outcome type body keyids file rd → rd ≡ says f es → RoleFile type body keyids file f es
+    go (unformed n) h = refused-not-says h
+    go (formed w) h = knows w (keyids (w .envelope-is .signed)) refl (knownSpec (w .contents .specVersion)) refl h
 
 -- the body of a role's file
 pub body-is : {A : Type 0} (type : Bytes) (body : Json → Option A) (v : Json) (f : File A) → fileOf type body v ≡ some f → body v ≡ some (f .body)
