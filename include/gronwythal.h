@@ -79,11 +79,16 @@ typedef struct gw_step {
     gw_state state;
 } gw_step;
 
-/* What find gives: zeros where it is refused. The length is in bytes, the digest SHA-256. */
+/*
+ * What find gives. Length, in bytes, and digest, SHA-256, are zeros where it is refused. `compared` is how many listed names the path was
+ * compared with: those smaller than it, byte by byte and a shorter prefix first, and one more where one is left. It is 0 with a refusal of
+ * 1 to 8.
+ */
 typedef struct gw_image {
     uint8_t answer;
     uint64_t length;
     uint8_t digest[GW_ID_SIZE];
+    size_t compared;
 } gw_image;
 
 /* A SHA-256 digest. */
@@ -139,7 +144,7 @@ GW_SIZE_IS_(size_t, 8);
 GW_SIZE_IS_(bool, 1);
 GW_SIZE_IS_(gw_state, GW_STATE_SIZE);
 GW_SIZE_IS_(gw_step, GW_STATE_SIZE + 8);
-GW_SIZE_IS_(gw_image, 48);
+GW_SIZE_IS_(gw_image, 56);
 GW_SIZE_IS_(gw_digest, 32);
 GW_SIZE_IS_(gw_public_key, 33);
 GW_SIZE_IS_(gw_look, 32);
@@ -242,7 +247,8 @@ static inline gw_answer gw_targets(gw_state *state, const uint8_t *file, size_t 
 
 /*
  * The length and digest of an image (1 to 4, 6 to 8, 15). The file is the targets file that was accepted; another is refused, by its
- * digest. The path is the name in that file, with its escapes undone, and no null byte behind it.
+ * digest. The path is the name in that file, with its escapes undone, and no null byte behind it. Names rise, so the search ends at the
+ * first that is not smaller than the path: `compared` says how far it went, with GW_ACCEPTED and with GW_NOT_LISTED.
  */
 static inline gw_answer gw_find(const gw_state *state, const uint8_t *file, size_t file_len, const uint8_t *path, size_t path_len,
                                 gw_image *image)

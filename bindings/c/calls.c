@@ -135,6 +135,7 @@ static void nothing_at_all(void)
     memset(&image, 0xa5, sizeof image);
     EXPECT(GW_NOT_TEXT, gw_find(&state, NULL, 0, NULL, 0, &image));
     EXPECT(0, image.length);
+    EXPECT(0, image.compared);
     EXPECT(1, zeros(image.digest, sizeof image.digest));
     memset(&key, 0xa5, sizeof key);
     EXPECT(GW_NOT_HELD, gw_key(&state, NULL, 0, &key));
@@ -248,6 +249,7 @@ static void an_update(void)
     EXPECT(GW_OTHER_CONTENT, gw_find(&state, altered_targets.at, altered_targets.len, text(path), 17, &image));
     EXPECT(GW_NOT_LISTED, gw_find(&state, targets.at, targets.len, text(path), 16, &image));
     EXPECT(0, image.length);
+    EXPECT(1, zeros(image.digest, sizeof image.digest));
     EXPECT(GW_ACCEPTED, gw_find(&state, targets.at, targets.len, text(path), 17, &image));
     EXPECT(91, image.length);
     EXPECT(0, memcmp(image.digest, image_digest.bytes, GW_ID_SIZE));
@@ -262,6 +264,132 @@ static void an_update(void)
 
     EXPECT(2041007003, held(&state));
     EXPECT(MORNING, gw_held(&state).start);
+}
+
+/* ---- Names compared: those smaller than the path, byte by byte with escapes undone, and one more where one is left */
+
+#define ONES_16 "1111111111111111"
+#define ONES_64 ONES_16 ONES_16 ONES_16 ONES_16
+#define TARGETS_KEY "8b24afe09225855d1fd1d022888306a7c99439d089e64aacdf467bc94913a3ff"
+
+/* An image of that name, as a file writes it. */
+#define LISTED(name, length) "\"" name "\":{\"hashes\":{\"sha256\":\"" ONES_64 "\"},\"length\":" #length "}"
+
+/* A targets file that snapshot 7 lists. */
+#define TARGETS(images) \
+    "{\"signatures\":[{\"keyid\":\"" TARGETS_KEY "\",\"sig\":\"" ONES_64 ONES_64 "\"}],\"signed\":{\"_type\":\"targets\"," \
+    "\"expires\":\"2026-06-01T00:00:00Z\",\"spec_version\":\"1\",\"targets\":{" images "},\"version\":3}}"
+
+/* A name as long as one may be. */
+#define M_32 "mmmmmmmmmmmmmmmmmmmmmmmmmmmmmmmm"
+#define LONGEST M_32 M_32 M_32 M_32
+
+/* With its backslash on, the third would come after the fourth. */
+static const char SIX_NAMES[] = TARGETS(LISTED("a", 5) "," LISTED("a!", 6) "," LISTED("a\\\"", 7) ","
+                                        LISTED("a#", 8) "," LISTED(LONGEST, 9) "," LISTED("\303\251", 10));
+static const char NO_NAMES[] = TARGETS("");
+
+static file written(const char *content)
+{
+    file f;
+    memset(&f, 0, sizeof f);
+    f.len = strlen(content);
+    memcpy(f.at, content, f.len);
+    return f;
+}
+
+/* The state after an update to that targets file. */
+static gw_state holding(const file *targets)
+{
+    const file root_1 = taken("root-1.json"), root_2 = taken("root-2.json");
+    const file timestamp = taken("timestamp-41.json"), snapshot = taken("snapshot-7.json");
+    gw_state state;
+    EXPECT(GW_ACCEPTED, gw_install(&state, root_1.at, root_1.len, GOOD, 2, MORNING));
+    EXPECT(GW_ACCEPTED, gw_root(&state, root_2.at, root_2.len, GOOD, 2, GOOD, 2));
+    EXPECT(GW_ACCEPTED, gw_timestamp(&state, timestamp.at, timestamp.len, GOOD, 1));
+    EXPECT(GW_ACCEPTED, gw_snapshot(&state, snapshot.at, snapshot.len, GOOD, 1));
+    EXPECT(GW_ACCEPTED, gw_targets(&state, targets->at, targets->len, GOOD, 1));
+    return state;
+}
+
+static gw_image found(const gw_state *state, const uint8_t *at, size_t len, const uint8_t *path, size_t path_len)
+{
+    gw_image image;
+    gw_answer answer;
+    memset(&image, 0xa5, sizeof image);
+    answer = gw_find(state, at, len, path, path_len, &image);
+    EXPECT(answer, image.answer);
+    return image;
+}
+
+typedef struct search {
+    const char *path;
+    size_t path_len;
+    uint64_t length; /* 0 where the path is not listed */
+    size_t compared;
+} search;
+
+static const search SEARCHES[] = {
+    {"a", 1, 5, 1},           /* the first: no name is smaller */
+    {"a!", 2, 6, 2},          /* a is */
+    {"a\"", 2, 7, 3},         /* a, a! are */
+    {"a#", 2, 8, 4},          /* a, a!, a" are */
+    {LONGEST, 128, 9, 5},     /* a, a!, a", a# are */
+    {"\303\251", 2, 10, 6},   /* the last: all before it are */
+    {"", 0, 0, 1},            /* no name is */
+    {"A", 1, 0, 1},           /* no name is */
+    {"a ", 2, 0, 2},          /* a is */
+    {"b", 1, 0, 5},           /* a, a!, a", a# are */
+    {LONGEST, 127, 0, 5},     /* a, a!, a", a# are */
+    {LONGEST "m", 129, 0, 6}, /* all but the last are */
+    {"\303", 1, 0, 6},        /* all but the last are */
+    {"\303\252", 2, 0, 6},    /* all are, and none is left */
+};
+
+static void names_compared(void)
+{
+    const file six = written(SIX_NAMES), none = written(NO_NAMES);
+    const gw_state state = holding(&six), empty = holding(&none);
+    gw_image image;
+    size_t i;
+
+    for (i = 0; i < sizeof SEARCHES / sizeof *SEARCHES; i++) {
+        const search *s = &SEARCHES[i];
+        image = found(&state, six.at, six.len, text(s->path), s->path_len);
+        EXPECT(s->length ? GW_ACCEPTED : GW_NOT_LISTED, image.answer);
+        EXPECT(s->length, image.length);
+        EXPECT(s->compared, image.compared);
+    }
+    image = found(&empty, none.at, none.len, text("a"), 1);
+    EXPECT(GW_NOT_LISTED, image.answer);
+    EXPECT(0, image.compared);
+}
+
+/* The answer for a path that is listed. */
+static gw_answer refused_uncompared(const gw_state *state, const uint8_t *at, size_t len)
+{
+    const gw_image image = found(state, at, len, text("a#"), 2);
+    EXPECT(0, image.compared);
+    return (gw_answer)image.answer;
+}
+
+static void no_names_compared(void)
+{
+    static const uint8_t too_long[GW_MAX_FILE + 1] = {0};
+    const file list = written(SIX_NAMES), root = taken("root-2.json");
+    const file other_spec = changed(list, "\"spec_version\":\"1\"", "\"spec_version\":\"2\"");
+    const file altered = changed(list, "\"length\":9", "\"length\":8");
+    gw_state state = holding(&list), blank;
+
+    gw_blank(&blank);
+    EXPECT(GW_TOO_LONG, refused_uncompared(&state, too_long, sizeof too_long));
+    EXPECT(GW_NOT_TEXT, refused_uncompared(&state, list.at, list.len - 1));
+    EXPECT(GW_BAD_FORM, refused_uncompared(&state, root.at, root.len));
+    EXPECT(GW_OTHER_SPEC, refused_uncompared(&state, other_spec.at, other_spec.len));
+    EXPECT(GW_NOT_HELD, refused_uncompared(&blank, list.at, list.len));
+    EXPECT(GW_OTHER_CONTENT, refused_uncompared(&state, altered.at, altered.len));
+    EXPECT(GW_ACCEPTED, gw_new_cycle(&state, 1773036000)); /* 2026-03-09T06:00:00Z: the timestamp expires */
+    EXPECT(GW_HELD_EXPIRED, refused_uncompared(&state, list.at, list.len));
 }
 
 /* ---- Keyids: each is the digest of its key, tried after the form (3) and before spec_version (4) */
@@ -375,6 +503,8 @@ int main(int argc, char **argv)
     nothing_at_all();
     looking_in();
     an_update();
+    names_compared();
+    no_names_compared();
     keyids();
     order_of_keyids();
     sha256();

@@ -15,7 +15,7 @@
  */
 void layout_state(void *place, int64_t start);
 void layout_step(void *place, uint8_t answer, int64_t start);
-void layout_image(void *place, uint8_t answer, uint64_t length, uint8_t mark);
+void layout_image(void *place, uint8_t answer, uint64_t length, uint8_t mark, size_t compared);
 void layout_digest(void *place, uint8_t first_mark, uint8_t second_mark);
 void layout_public_key(void *place, uint8_t answer, uint8_t mark);
 void layout_look(void *place, uint8_t answer, size_t start, size_t length, size_t entries);
@@ -186,10 +186,11 @@ int main(void)
 {
     states();
     begin();
-    layout_image(place, 0x11, eight(0x12), 0x13);
+    layout_image(place, 0x11, eight(0x12), 0x13, eight(0x14));
     field("image", "answer", 0x11);
     field("image", "length", 0x12);
     field("image", "digest", 0x13);
+    field("image", "compared", 0x14);
     begin();
     layout_digest(place, 0x11, 0x12);
     show("digest", "bytes", find_two("digest", "bytes", 0x11, 0x12));

@@ -18,6 +18,7 @@ int main(void)
     FIELD(image, answer);
     FIELD(image, length);
     FIELD(image, digest);
+    FIELD(image, compared);
     SIZE(digest);
     FIELD(digest, bytes);
     SIZE(public_key);

@@ -264,6 +264,7 @@ static void find(uint8_t how, const gw_state *state)
     compare("answer in the image", image.answer, answer);
     compare_number("length", image.length);
     compare_bytes("digest", image.digest, sizeof image.digest);
+    compare_number("names compared", image.compared);
 }
 
 static void key(uint8_t how, const gw_state *state)

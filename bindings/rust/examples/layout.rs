@@ -23,7 +23,7 @@ fn main() {
     table! {
         state: State {}
         step: Step { answer, state }
-        image: Image { answer, length, digest }
+        image: Image { answer, length, digest, compared }
         digest: Digest { bytes }
         public_key: PublicKey { answer, bytes }
         look: Look { answer, start, length, entries }

@@ -130,12 +130,21 @@ impl State {
     /// The length and digest of the image of that path (1 to 4, 6 to 8, 15). The file is the targets file that was accepted; another is
     /// refused, by its digest. The path is the name in that file with its escapes undone.
     pub fn find(&self, file: &[u8], path: &[u8]) -> Result<Image, Refusal> {
+        self.find_counted(file, path).0
+    }
+
+    /// What [`State::find`] gives, and how many listed names the path was compared with.
+    ///
+    /// These are the names smaller than the path, byte by byte and a shorter prefix first, and one more where one is left: names rise, so
+    /// the search ends at the first that is not smaller. [`Refusal::NotListed`] comes with the number too; with any other refusal it is 0.
+    pub fn find_counted(&self, file: &[u8], path: &[u8]) -> (Result<Image, Refusal>, usize) {
         // SAFETY: slices are lent.
         let found = unsafe { raw::gronwythal_find(self.0, file.as_ptr(), file.len(), path.as_ptr(), path.len()) };
-        answered(found.answer).map(|()| Image {
+        let image = answered(found.answer).map(|()| Image {
             length: found.length,
             digest: found.digest,
-        })
+        });
+        (image, found.compared)
     }
 
     /// The held root's public key of a keyid (6, 15), given as files write it: 64 lower-case hex digits. [`Entry::keyid_hex`] gives them.

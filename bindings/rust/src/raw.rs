@@ -23,7 +23,7 @@ pub struct Step {
     pub state: State,
 }
 
-/// What find gives: zeros where it is refused.
+/// What find gives: length and digest are zeros where it is refused.
 #[derive(Clone, Copy)]
 #[repr(C)]
 pub struct Image {
@@ -33,6 +33,8 @@ pub struct Image {
     pub length: u64,
     /// Its SHA-256.
     pub digest: [u8; 32],
+    /// Listed names that the path was compared with; 0 with a refusal of 1 to 8.
+    pub compared: usize,
 }
 
 /// A SHA-256 digest.

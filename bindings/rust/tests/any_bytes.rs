@@ -72,7 +72,10 @@ fn offer(state: &State, file: &[u8], row: &[u8], path: &[u8]) {
         }
     }
     let _ = State::install(file, row, 0);
-    assert_ne!(state.find(file, path), Err(Refusal::BadArgument));
+    // No state here holds targets, so 6 if none of 1 to 4.
+    let (image, compared) = state.find_counted(file, path);
+    assert!(matches!(image.unwrap_err().number(), 1..=4 | 6));
+    assert_eq!(compared, 0);
     let _ = state.key(path);
     let _ = check_image(1, file, 1, path);
     let _ = sha256(file);
@@ -134,7 +137,10 @@ fn a_refusal_is_zeros() {
         let state = raw::gronwythal_blank();
         raw::gronwythal_find(state, file.as_ptr(), file.len(), path.as_ptr(), path.len())
     };
-    assert_eq!((image.answer, image.length, image.digest), (6, 0, [0; 32]));
+    assert_eq!(
+        (image.answer, image.length, image.digest, image.compared),
+        (6, 0, [0; 32], 0)
+    );
     let key = unsafe { raw::gronwythal_key(raw::gronwythal_blank(), path.as_ptr(), path.len()) };
     assert_eq!((key.answer, key.bytes), (6, [0; 32]));
     let entry = unsafe { raw::gronwythal_entry(file.as_ptr(), file.len(), 1) };

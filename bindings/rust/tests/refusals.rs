@@ -3,6 +3,7 @@
 
 use gronwythal::{Refusal, State, check_image, entry, is_canonical, look, signed_part};
 use std::collections::BTreeSet;
+use std::fmt::Display;
 
 // ---- Small files: one key signs every role
 
@@ -72,10 +73,17 @@ fn snapshot(version: u64, names: &str, expires: &str) -> Vec<u8> {
     )
 }
 
-fn targets(version: u64, expires: &str) -> Vec<u8> {
+/// A targets file that lists these names, as a file writes them: the first image has 5 bytes, each later one has one byte more.
+fn targets_listing<N: Display>(names: &[N], version: u64, expires: &str) -> Vec<u8> {
     let digest = "1".repeat(64);
-    let image = format!(r#""targets":{{"i":{{"hashes":{{"sha256":"{digest}"}},"length":5}}}}"#);
-    envelope(KEYID, &role("targets", version, expires, &image))
+    let image = |(length, name)| format!(r#""{name}":{{"hashes":{{"sha256":"{digest}"}},"length":{length}}}"#);
+    let images: Vec<String> = (5..).zip(names).map(image).collect();
+    let list = format!(r#""targets":{{{}}}"#, images.join(","));
+    envelope(KEYID, &role("targets", version, expires, &list))
+}
+
+fn targets(version: u64, expires: &str) -> Vec<u8> {
+    targets_listing(&["i"], version, expires)
 }
 
 const GOOD: &[u8] = &[1];
@@ -98,10 +106,14 @@ fn with_snapshot() -> State {
     state
 }
 
-fn with_targets() -> State {
+fn with_list(file: &[u8]) -> State {
     let mut state = with_snapshot();
-    state.targets(&targets(1, FAR), GOOD).unwrap();
+    state.targets(file, GOOD).unwrap();
     state
+}
+
+fn with_targets() -> State {
+    with_list(&targets(1, FAR))
 }
 
 // ---- The calls, each with the refusals it uses, by rising number
@@ -401,20 +413,84 @@ fn find_uses_1_to_4_and_6_to_8_and_15() {
     let other_spec = changed(file.clone(), r#"version":"1""#, r#"version":"2""#);
     let other_length = changed(file.clone(), r#""length":5"#, r#""length":6"#);
     let other_signature = changed(file.clone(), r#""sig":"0"#, r#""sig":"1"#);
-    let refused = |state: &State, file: &[u8], path: &[u8]| state.find(file, path).unwrap_err().number();
-    assert_eq!(refused(&state, &too_long(), b"i"), 1);
-    assert_eq!(refused(&state, b"", b"i"), 2);
-    assert_eq!(refused(&state, &root(1), b"i"), 3);
-    assert_eq!(refused(&state, &other_spec, b"i"), 4);
-    assert_eq!(refused(&with_snapshot(), &file, b"i"), 6);
-    assert_eq!(refused(&at(with_targets(), 1893456000), &file, b"i"), 7);
-    assert_eq!(refused(&state, &other_length, b"i"), 8);
-    assert_eq!(refused(&state, &other_signature, b"i"), 8);
-    assert_eq!(refused(&state, &file, b"j"), 15);
-    assert_eq!(refused(&state, &file, b""), 15);
-    assert_eq!(refused(&state, &file, &[b'i'; 129]), 15);
+    // Its number, and how many names were compared.
+    let refused = |state: &State, file: &[u8], path: &[u8]| {
+        let (image, compared) = state.find_counted(file, path);
+        assert_eq!(state.find(file, path), image);
+        (image.unwrap_err().number(), compared)
+    };
+    assert_eq!(refused(&state, &too_long(), b"i"), (1, 0));
+    assert_eq!(refused(&state, b"", b"i"), (2, 0));
+    assert_eq!(refused(&state, &root(1), b"i"), (3, 0));
+    assert_eq!(refused(&state, &other_spec, b"i"), (4, 0));
+    assert_eq!(refused(&with_snapshot(), &file, b"i"), (6, 0));
+    assert_eq!(refused(&at(with_targets(), 1893456000), &file, b"i"), (7, 0));
+    assert_eq!(refused(&state, &other_length, b"i"), (8, 0));
+    assert_eq!(refused(&state, &other_signature, b"i"), (8, 0));
+    assert_eq!(refused(&state, &file, b"j"), (15, 1));
+    assert_eq!(refused(&state, &file, b""), (15, 1));
+    assert_eq!(refused(&state, &file, &[b'i'; 129]), (15, 1));
     let image = state.find(&file, b"i").unwrap();
     assert_eq!((image.length, image.digest), (5, [0x11; 32]));
+}
+
+/// With its backslash on, the third name would come after the fourth. The fifth is as long as one may be.
+#[test]
+fn find_compares_the_smaller_names_and_one_more_where_one_is_left() {
+    let file = targets_listing(&["a", "a!", r#"a\""#, "a#", &"m".repeat(128), "é"], 1, FAR);
+    let state = with_list(&file);
+    let listed: [(&[u8], u64, usize); 6] = [
+        (b"a", 5, 1),
+        (b"a!", 6, 2),
+        (b"a\"", 7, 3),
+        (b"a#", 8, 4),
+        (&[b'm'; 128], 9, 5),
+        ("é".as_bytes(), 10, 6),
+    ];
+    for (path, length, stated) in listed {
+        let (image, compared) = state.find_counted(&file, path);
+        assert_eq!((image.unwrap().length, compared), (length, stated));
+        assert_eq!(state.find(&file, path), image);
+    }
+    let not_listed: [(&[u8], usize); 12] = [
+        (b"", 1),             // none is smaller
+        (b"A", 1),            // none
+        (&[b'A'; 129], 1),    // none
+        (b"a ", 2),           // a
+        (b"a\\", 5),          // a, a!, a", a#
+        (&[b'a'; 129], 5),    // a, a!, a", a#
+        (&[b'm'; 127], 5),    // a, a!, a", a#
+        (&[b'm'; 129], 6),    // all but the last
+        (b"n", 6),            // all but the last
+        (b"\xc3", 6),         // all but the last
+        ("é!".as_bytes(), 6), // all, and none is left
+        (&[0xff; 129], 6),    // all, and none is left
+    ];
+    for (path, stated) in not_listed {
+        let found = state.find_counted(&file, path);
+        assert_eq!(found, (Err(Refusal::NotListed), stated), "{}", path.escape_ascii());
+    }
+}
+
+#[test]
+fn find_compares_as_many_names_as_are_listed() {
+    let names: Vec<String> = (0..256).map(|place| format!("{place:03}")).collect();
+    let file = targets_listing(&names, 1, FAR);
+    let state = with_list(&file);
+    for (place, name) in names.iter().enumerate() {
+        let (image, compared) = state.find_counted(&file, name.as_bytes());
+        assert_eq!((image.unwrap().length, compared), (5 + place as u64, place + 1));
+    }
+    assert_eq!(state.find_counted(&file, b"256"), (Err(Refusal::NotListed), 256));
+}
+
+#[test]
+fn find_compares_nothing_in_an_empty_list() {
+    let empty = targets_listing::<&str>(&[], 1, FAR);
+    for path in [&b""[..], b"a", &[b'a'; 129]] {
+        let found = with_list(&empty).find_counted(&empty, path);
+        assert_eq!(found, (Err(Refusal::NotListed), 0));
+    }
 }
 
 #[test]

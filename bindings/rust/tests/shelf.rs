@@ -80,10 +80,11 @@ fn asked(state: &State, words: &[&str]) -> String {
     let arg = |i: usize| bytes(words[i]);
     let count = |i: usize| words[i].parse().unwrap();
     match words[0] {
-        "find" => match state.find(&arg(1), &arg(2)) {
-            Ok(image) => format!("find 0 {} {}", image.length, hex(&image.digest)),
-            Err(refusal) => format!("find {} 0", refusal.number()),
-        },
+        "find" => {
+            let (image, compared) = state.find_counted(&arg(1), &arg(2));
+            let (length, digest) = image.map_or((0, [0; 32]), |image| (image.length, image.digest));
+            format!("find {} {length} {} {compared}", number(&image), hex(&digest))
+        }
         "key" => match state.key(&arg(1)) {
             Ok(public) => format!("key 0 {}", hex(&public)),
             Err(refusal) => format!("key {}", refusal.number()),

@@ -76,5 +76,6 @@ fn answer(number: u8) -> Found {
         answer: number,
         length: 0,
         digest: [0; 32],
+        compared: 0,
     }
 }

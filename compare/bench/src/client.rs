@@ -38,7 +38,7 @@ pub trait Client: Clone {
     fn versions(&self) -> Versions;
 }
 
-/// What find gives; zeros where it is refused. Of a digest asked for, only that.
+/// What find gives; zeros where it is refused, but for the names compared. Of a digest asked for, only that.
 #[derive(Clone, Debug, PartialEq, Eq)]
 pub struct Found {
     /// 01's number.
@@ -47,6 +47,8 @@ pub struct Found {
     pub length: u64,
     /// The listed digest, or the one asked for.
     pub digest: [u8; 32],
+    /// How many names were compared.
+    pub compared: usize,
 }
 
 /// The held versions of root, timestamp, snapshot and targets, and the start time in force.
@@ -98,17 +100,15 @@ impl<F: Forms + Clone> Client for State<F> {
     }
 
     fn find(&self, file: &[u8], path: &[u8]) -> Found {
-        match self.find(file, path) {
-            Ok(target) => Found {
-                answer: 0,
-                length: target.length,
-                digest: target.sha256,
-            },
-            Err(refusal) => Found {
-                answer: refusal as u8,
-                length: 0,
-                digest: [0; 32],
-            },
+        let found = self.find(file, path);
+        let (length, digest) = found
+            .image
+            .map_or((0, [0; 32]), |target| (target.length, target.sha256));
+        Found {
+            answer: number_of(&found.image),
+            length,
+            digest,
+            compared: found.compared,
         }
     }
 

@@ -29,6 +29,7 @@ struct Image {
     answer: u8,
     length: u64,
     digest: [u8; 32],
+    compared: usize,
 }
 
 /// `gw_digest`
@@ -143,6 +144,7 @@ impl Client for State {
             answer: image.answer,
             length: image.length,
             digest: image.digest,
+            compared: image.compared,
         }
     }
 
@@ -158,13 +160,19 @@ impl Client for State {
 
 #[cfg(test)]
 mod tests {
-    use super::State;
+    use super::{Image, State};
+
+    /// The number that stands in the header behind these words.
+    fn size_behind(words: &str) -> usize {
+        let header = include_str!("../../../include/gronwythal.h");
+        let (_, behind) = header.split_once(words).expect("the header has the words");
+        let digits = behind.split(|byte: char| !byte.is_ascii_digit()).next();
+        digits.and_then(|digits| digits.parse().ok()).expect("a number")
+    }
 
     #[test]
-    fn the_state_is_as_large_as_the_header_says() {
-        let header = include_str!("../../../include/gronwythal.h");
-        let size = header.split("#define GW_STATE_SIZE ").nth(1).unwrap();
-        let size: usize = size.split_whitespace().next().unwrap().parse().unwrap();
-        assert_eq!(size_of::<State>(), size);
+    fn states_and_images_are_as_large_as_the_header_says() {
+        assert_eq!(size_of::<State>(), size_behind("#define GW_STATE_SIZE "));
+        assert_eq!(size_of::<Image>(), size_behind("GW_SIZE_IS_(gw_image, "));
     }
 }

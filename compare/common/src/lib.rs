@@ -18,4 +18,4 @@ pub mod text;
 
 pub use forms::Forms;
 pub use refusal::{Refusal, number_of};
-pub use state::State;
+pub use state::{Found, State};

@@ -153,4 +153,40 @@ pub struct Targets {
     pub header: Header,
     /// The image of that path, if it is listed.
     pub found: Option<Target>,
+    /// "how many names it compared"
+    pub compared: usize,
+}
+
+/// A search for a path in a list of images, which come in the rising order of their names.
+pub struct Search<'p> {
+    /// The path, until a name has come that is not smaller.
+    wanted: Option<&'p [u8]>,
+    /// The image of the path, if it has come.
+    pub found: Option<Target>,
+    /// How many names were compared with the path.
+    pub compared: usize,
+}
+
+impl<'p> Search<'p> {
+    /// Before the first image; without a path nothing is looked for.
+    pub fn new(path: Option<&'p [u8]>) -> Search<'p> {
+        Search {
+            wanted: path,
+            found: None,
+            compared: 0,
+        }
+    }
+
+    /// The next image. Its name is compared only if the search has not ended before.
+    pub fn pass(&mut self, name: Text, target: Target) {
+        let Some(path) = self.wanted else { return };
+        self.compared += 1;
+        let order = name.order_to(path);
+        if order.is_eq() {
+            self.found = Some(target);
+        }
+        if order.is_ge() {
+            self.wanted = None;
+        }
+    }
 }

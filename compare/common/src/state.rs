@@ -5,7 +5,7 @@ use std::marker::PhantomData;
 
 use crate::forms::Forms;
 use crate::hex::Id;
-use crate::records::{Header, Listed, Role, Root, Signed, Snapshot, Target, Timestamp};
+use crate::records::{Header, Listed, Role, Root, Signed, Snapshot, Target, Targets, Timestamp};
 use crate::refusal::{Refusal, ensure};
 use crate::sha256;
 
@@ -25,6 +25,15 @@ pub struct State<F> {
 struct HeldTargets {
     header: Header,
     digest: Id,
+}
+
+/// What find gives.
+#[derive(Clone, Debug, PartialEq, Eq)]
+pub struct Found {
+    /// The image, or why none is given.
+    pub image: Result<Target, Refusal>,
+    /// "how many names it compared"; with a refusal of 1 to 8 none.
+    pub compared: usize,
 }
 
 impl<F> Default for State<F> {
@@ -141,9 +150,24 @@ impl<F: Forms> State<F> {
         Ok(())
     }
 
-    /// Find (1 to 4, 6 to 8, 15): the length and digest of an image. "Needs current targets .. and a current snapshot; leans
-    /// on all four."
-    pub fn find(&self, file: &[u8], path: &[u8]) -> Result<Target, Refusal> {
+    /// Find (1 to 4, 6 to 8, 15): the length and digest of an image, and how many names were compared. "Needs current targets
+    /// .. and a current snapshot; leans on all four."
+    pub fn find(&self, file: &[u8], path: &[u8]) -> Found {
+        match self.search(file, path) {
+            // A path of length 0 or above 128 is no name of a targets file.
+            Ok(given) => Found {
+                image: given.found.ok_or(Refusal::NotListed),
+                compared: given.compared,
+            },
+            Err(refusal) => Found {
+                image: Err(refusal),
+                compared: 0,
+            },
+        }
+    }
+
+    /// The targets file that is held, searched for the path (1 to 4, 6 to 8).
+    fn search(&self, file: &[u8], path: &[u8]) -> Result<Targets, Refusal> {
         let given = F::targets(file, Some(path))?.says;
         let root = self.root.as_ref().ok_or(Refusal::NotHeld)?;
         let (timestamp, snapshot) = self.current_snapshot().ok_or(Refusal::NotHeld)?;
@@ -152,8 +176,7 @@ impl<F: Forms> State<F> {
             self.check_held(header)?;
         }
         ensure(sha256::digest(file) == targets.digest, Refusal::OtherContent)?;
-        // A path of length 0 or above 128 is no name of a targets file.
-        given.found.ok_or(Refusal::NotListed)
+        Ok(given)
     }
 
     /// The held versions of root, timestamp, snapshot and targets, and the start time in force.

@@ -1,5 +1,6 @@
 //! "Text" (01): a cursor over canonical JSON that validates what it passes over.
 
+use std::cmp::Ordering;
 use std::ops::RangeInclusive;
 
 /// "Objects and arrays may hold one another, to depth 8"
@@ -63,6 +64,15 @@ impl<'a> Text<'a> {
             self.raw == bytes
         } else {
             self.bytes().eq(bytes.iter().copied())
+        }
+    }
+
+    /// How it stands to these bytes, in the order of names.
+    pub fn order_to(self, bytes: &[u8]) -> Ordering {
+        if self.escapes == 0 {
+            self.raw.cmp(bytes)
+        } else {
+            self.bytes().cmp(bytes.iter().copied())
         }
     }
 

@@ -4,7 +4,7 @@
 
 use std::collections::BTreeMap;
 
-use common::{Forms, State, date, number_of, sha256};
+use common::{Forms, Found, State, date, number_of, sha256};
 use paper::script::Script;
 use side::calls::{ANSWERS, Call, kind_of};
 use side::compare::Group;
@@ -75,9 +75,10 @@ impl<F: Forms> Player<F> {
                 self.step("targets", number_of(&result))
             }
             Call::Find { file, path } => {
-                let result = self.state.find(file, path);
-                let (length, sha256) = result.map_or((0, [0; 32]), |target| (target.length, target.sha256));
-                format!("find {} {length} {}", number_of(&result), paper::hex::written(&sha256))
+                let Found { image, compared } = self.state.find(file, path);
+                let (length, sha256) = image.map_or((0, [0; 32]), |target| (target.length, target.sha256));
+                let sha256 = paper::hex::written(&sha256);
+                format!("find {} {length} {sha256} {compared}", number_of(&image))
             }
             Call::Sha256(bytes) => format!("sha256 {}", paper::hex::written(&sha256::digest(bytes))),
             Call::Look(_) | Call::Entry { .. } | Call::Key(_) | Call::Image { .. } | Call::State => return None,

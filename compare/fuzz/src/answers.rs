@@ -5,7 +5,7 @@ use std::fmt;
 use paper::envelope;
 use paper::refusal::{Refusal, number_of};
 use paper::script::Call;
-use paper::state::{self, State};
+use paper::state::{self, Found, State};
 use paper::{hex, json, sha256};
 
 /// A record's version: whether it is held, as a byte, and the number.
@@ -41,8 +41,8 @@ impl Held {
 pub enum Given {
     /// Nothing: a step, or the comparison of an image. `is_canonical` has its truth in the number.
     Nothing,
-    /// Of find: length and digest.
-    Image(u64, [u8; 32]),
+    /// Of find: length and digest, and how many names were compared.
+    Image(u64, [u8; 32], u64),
     /// Of key: the public key.
     Public([u8; 32]),
     /// Of sha256, which has no number: the digest.
@@ -67,7 +67,10 @@ impl fmt::Display for Said {
         write!(out, "{}", self.number)?;
         match self.given {
             Given::Nothing => Ok(()),
-            Given::Image(length, digest) => write!(out, ", {length} bytes, {}", hex::written(&digest)),
+            Given::Image(length, digest, compared) => {
+                let digest = hex::written(&digest);
+                write!(out, ", {length} bytes, {digest}, {compared} names compared")
+            }
             Given::Public(bytes) | Given::Digest(bytes) => write!(out, ", {}", hex::written(&bytes)),
             Given::Part(start, length, entries) => {
                 write!(out, ", {length} bytes from place {start}, {entries} entries")
@@ -125,12 +128,10 @@ fn step(result: Result<(), Refusal>) -> Said {
 }
 
 fn find(state: &State, file: &[u8], path: &[u8]) -> Said {
-    let result = state.find(file, path);
-    let number = number_of(&result);
-    let given = match result {
-        Ok(target) => Given::Image(target.length, undone(&target.sha256)),
-        Err(_) => Given::Image(0, [0; 32]),
-    };
+    let Found { image, compared } = state.find(file, path);
+    let number = number_of(&image);
+    let (length, digest) = image.map_or((0, [0; 32]), |target| (target.length, undone(&target.sha256)));
+    let given = Given::Image(length, digest, compared as u64);
     Said { number, given }
 }
 

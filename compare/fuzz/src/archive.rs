@@ -25,6 +25,7 @@ struct Image {
     answer: u8,
     length: u64,
     digest: [u8; 32],
+    compared: usize,
 }
 
 #[repr(C)]
@@ -171,7 +172,7 @@ fn question(state: State, call: &Lent) -> Said {
                 let image = gronwythal_find(state, file.as_ptr(), file.len(), path.as_ptr(), path.len());
                 Said {
                     number: image.answer,
-                    given: Given::Image(image.length, image.digest),
+                    given: Given::Image(image.length, image.digest, image.compared as u64),
                 }
             }
             Lent::Key(keyid) => {

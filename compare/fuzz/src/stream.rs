@@ -34,9 +34,10 @@ pub fn write(record: &mut Vec<u8>, number: usize, made: &Move, said: &Said, held
     record.push(said.number);
     match said.given {
         Given::Nothing => {}
-        Given::Image(length, digest) => {
+        Given::Image(length, digest, compared) => {
             record.extend(length.to_le_bytes());
             record.extend(digest);
+            record.extend(compared.to_le_bytes());
         }
         Given::Public(bytes) | Given::Digest(bytes) => record.extend(bytes),
         Given::Part(start, length, entries) => {
@@ -119,7 +120,7 @@ fn write_bytes(record: &mut Vec<u8>, bytes: &[u8]) {
 #[cfg(test)]
 mod tests {
     use super::write;
-    use crate::answers::{Held, number};
+    use crate::answers::{Given, Held, Said, number};
     use crate::source::Move;
     use paper::script::Call;
     use paper::state::State;
@@ -149,5 +150,25 @@ mod tests {
             b"\x02\x01\0\0\0\0\0\0",
         ];
         assert_eq!(record, parts.concat());
+    }
+
+    #[test]
+    fn what_find_gives() {
+        let made = Move {
+            call: Call::Find {
+                file: Vec::new(),
+                path: b"a".to_vec(),
+            },
+            aside: false,
+        };
+        let said = Said {
+            number: 0,
+            given: Given::Image(513, [9; 32], 256),
+        };
+        let mut record = Vec::new();
+        write(&mut record, 0, &made, &said, &Held::of(&State::blank()));
+        let given: [&[u8]; 4] = [b"\0", b"\x01\x02\0\0\0\0\0\0", &[9; 32], b"\0\x01\0\0\0\0\0\0"];
+        let behind = b"f\0".len() + 8 + 8 + b"a".len();
+        assert!(record[behind..].starts_with(&given.concat()));
     }
 }

@@ -5,7 +5,7 @@ use common::date;
 use common::hex::{self, Id};
 use common::records::{
     Header, Key, LENGTHS, Listed, MAX_ENTRIES, MAX_FILE, MAX_KEYS, MAX_NAMES, MAX_PATH, MAX_TARGETS, Name, Role, Root,
-    Signed, Snapshot, Target, Targets, Timestamp, VERSIONS,
+    Search, Signed, Snapshot, Target, Targets, Timestamp, VERSIONS,
 };
 use common::refusal::ensure;
 use common::sha256;
@@ -102,8 +102,12 @@ pub fn targets(file: &[u8], path: Option<&[u8]>) -> Result<Signed<Targets>, Refu
             }
             _ => header.read_member(reader, name),
         })?;
-        let found = targets.ok_or(Fault)?;
-        header.finish(|header| Targets { header, found })
+        let search = targets.ok_or(Fault)?;
+        header.finish(|header| Targets {
+            header,
+            found: search.found,
+            compared: search.compared,
+        })
     })
 }
 
@@ -387,22 +391,19 @@ fn read_hashes(reader: &mut Reader) -> text::Result<Id> {
     sha256.ok_or(Fault)
 }
 
-/// "targets", 0 to 256 names of 1 to 128 bytes. All are checked, and the one of the path is given.
-fn read_targets(reader: &mut Reader, path: Option<&[u8]>) -> text::Result<Option<Target>> {
-    let mut found = None;
+/// "targets", 0 to 256 names of 1 to 128 bytes. All are checked, and the path is looked for.
+fn read_targets<'p>(reader: &mut Reader, path: Option<&'p [u8]>) -> text::Result<Search<'p>> {
+    let mut search = Search::new(path);
     let mut count = 0;
     reader.object(|reader, name| {
         count += 1;
         if count > MAX_TARGETS || !(1..=MAX_PATH).contains(&name.length()) {
             return Err(Fault);
         }
-        let target = read_target(reader)?;
-        if path.is_some_and(|path| name.is(path)) {
-            found = Some(target);
-        }
+        search.pass(name, read_target(reader)?);
         Ok(())
     })?;
-    Ok(found)
+    Ok(search)
 }
 
 /// "each with "length" and "hashes" as above, both required"

@@ -5,7 +5,7 @@ use common::date;
 use common::hex::{self, Id};
 use common::records::{
     Header, Key, LENGTHS, Listed, MAX_ENTRIES, MAX_FILE, MAX_KEYS, MAX_NAMES, MAX_PATH, MAX_TARGETS, Name, Role, Root,
-    Signed, Snapshot, Target, Targets, Timestamp, VERSIONS,
+    Search, Signed, Snapshot, Target, Targets, Timestamp, VERSIONS,
 };
 use common::refusal::ensure;
 use common::sha256;
@@ -61,8 +61,13 @@ pub fn snapshot(file: &[u8]) -> Result<Signed<Snapshot>, Refusal> {
 /// A targets file, in which a path may be looked for.
 pub fn targets(file: &[u8], path: Option<&[u8]>) -> Result<Signed<Targets>, Refusal> {
     read(file, b"targets", |header, signed| {
-        let found = read_targets(signed.get("targets")?.object()?, path)?;
-        Some((Targets { header, found }, Ok(())))
+        let search = read_targets(signed.get("targets")?.object()?, path)?;
+        let targets = Targets {
+            header,
+            found: search.found,
+            compared: search.compared,
+        };
+        Some((targets, Ok(())))
     })
 }
 
@@ -238,22 +243,19 @@ fn read_hashes(hashes: &Value) -> Option<Id> {
     read_id(hashes.object()?.get("sha256")?)
 }
 
-/// "targets", 0 to 256 names of 1 to 128 bytes. All are checked, and the one of the path is given.
-fn read_targets(members: &Object, path: Option<&[u8]>) -> Option<Option<Target>> {
+/// "targets", 0 to 256 names of 1 to 128 bytes. All are checked, and the path is looked for.
+fn read_targets<'p>(members: &Object, path: Option<&'p [u8]>) -> Option<Search<'p>> {
     if members.count() > MAX_TARGETS {
         return None;
     }
-    let mut found = None;
+    let mut search = Search::new(path);
     for (name, target) in members.iter() {
         if !(1..=MAX_PATH).contains(&name.length()) {
             return None;
         }
-        let target = read_target(target)?;
-        if path.is_some_and(|path| name.is(path)) {
-            found = Some(target);
-        }
+        search.pass(name, read_target(target)?);
     }
-    Some(found)
+    Some(search)
 }
 
 /// "each with "length" and "hashes" as above, both required"

@@ -6,7 +6,7 @@ use crate::hex;
 use crate::refusal::Refusal::{self, *};
 use crate::sha256;
 use crate::shelf::{self, EXPIRES, NOW, Root, digest, file, key_text, keyid, keyid_of, public};
-use crate::state::{State, image};
+use crate::state::{Found, State, image};
 
 /// A state that holds this root alone.
 fn installed(root: &Root) -> State {
@@ -75,7 +75,7 @@ fn found(state: &State, path: &[u8]) -> Result<(u64, String), Refusal> {
 }
 
 fn found_in(state: &State, version: u64, path: &[u8]) -> Result<(u64, String), Refusal> {
-    let target = state.find(&targets_file(version), path)?;
+    let target = state.find(&targets_file(version), path).image?;
     Ok((target.length, target.sha256))
 }
 
@@ -163,8 +163,8 @@ mod files_to_try {
             Ok(())
         );
         assert_eq!(state.targets(&empty, &[1]), Ok(()));
-        assert_eq!(state.find(&empty, b"image"), Err(NotListed));
-        assert_eq!(state.find(&targets_file(8), b"image"), Err(Differs));
+        assert_eq!(state.find(&empty, b"image").image, Err(NotListed));
+        assert_eq!(state.find(&targets_file(8), b"image").image, Err(Differs));
     }
 
     #[test]
@@ -436,8 +436,8 @@ mod steps {
         let newer = snapshot_file(6, &[("a", 9), ("targets.json", 7)]);
         assert_eq!(state.snapshot(&newer, &[1]), Ok(()));
         assert_eq!(state.targets(&one, &[1]), Ok(()));
-        assert_eq!(state.find(&one, b"image"), Err(NotListed));
-        assert_eq!(state.find(&other, b"image"), Err(Differs));
+        assert_eq!(state.find(&one, b"image").image, Err(NotListed));
+        assert_eq!(state.find(&other, b"image").image, Err(Differs));
     }
 
     #[test]
@@ -731,6 +731,187 @@ mod broken_forms {
         };
         assert_eq!(with(&many(256)), Ok(()));
         assert_eq!(with(&many(257)), Err(BrokenForm));
+    }
+}
+
+/// "It tells find how many names it compared: exactly the smaller ones, and one more where one is left."
+mod compared {
+    use super::*;
+
+    /// A state that holds a targets file with these names, as they stand between quotation marks, and the file.
+    fn holding(names: &[&str]) -> (State, Vec<u8>) {
+        let file = file(&[4], &shelf::targets(7, EXPIRES, &table(names)));
+        let mut state = complete();
+        assert_eq!(state.targets(&file, &[1]), Ok(()));
+        (state, file)
+    }
+
+    fn table(names: &[&str]) -> String {
+        let sha256 = hex::written(&digest(1));
+        let targets: Vec<String> = names.iter().map(|name| shelf::target(name, 1, &sha256)).collect();
+        targets.join(",")
+    }
+
+    /// Asks for paths in a list, each with the number that it has to give.
+    fn asked(names: &[&str], paths: &[(&[u8], usize)]) {
+        let (state, file) = holding(names);
+        for (path, number) in paths {
+            assert_eq!(state.find(&file, path).compared, *number, "{path:?} in {names:?}");
+        }
+    }
+
+    fn refused(refusal: Refusal) -> Found {
+        Found {
+            image: Err(refusal),
+            compared: 0,
+        }
+    }
+
+    #[test]
+    fn before_at_between_and_after_the_names() {
+        asked(
+            &["b", "d", "f"],
+            &[
+                (b"", 1),
+                (b"a", 1),
+                (b"b", 1),
+                (b"c", 2),
+                (b"d", 2),
+                (b"e", 3),
+                (b"f", 3),
+                (b"g", 3),
+            ],
+        );
+    }
+
+    #[test]
+    fn where_one_name_is_listed_or_none() {
+        for path in [&b""[..], b"a", b"b", b"c", b"\xff", &[b'x'; 129], &[b'x'; 300]] {
+            asked(&[], &[(path, 0)]);
+            asked(&["b"], &[(path, 1)]);
+        }
+    }
+
+    #[test]
+    fn a_shorter_prefix_comes_first() {
+        asked(
+            &["a", "ab", "abc"],
+            &[
+                (b"a", 1),
+                (b"a\0", 2),
+                (b"aa", 2),
+                (b"ab", 2),
+                (b"abb", 3),
+                (b"abc", 3),
+                (b"abcd", 3),
+                (b"b", 3),
+            ],
+        );
+    }
+
+    #[test]
+    fn after_the_escapes_are_undone() {
+        asked(
+            &["!", r#"\""#, "#", "[", r"\\", "]"],
+            &[
+                (b"!", 1),
+                (b"!!", 2),
+                (b"\"", 2),
+                (b"\"!", 3),
+                (b"#", 3),
+                (b"$", 4),
+                (b"[", 4),
+                (b"[]", 5),
+                (b"\\", 5),
+                (b"\\\"", 6),
+                (b"\\\\", 6),
+                (b"]", 6),
+                (b"^", 6),
+            ],
+        );
+    }
+
+    #[test]
+    fn bytes_have_no_sign() {
+        // ~ is 7e; the others begin with c2, e0 and f0.
+        asked(
+            &["~", "\u{80}", "\u{800}", "\u{10000}"],
+            &[
+                (b"}", 1),
+                (b"~", 1),
+                (b"\x7f", 2),
+                (b"\x80", 2),
+                (b"\xc2", 2),
+                ("\u{80}".as_bytes(), 2),
+                ("\u{81}".as_bytes(), 3),
+                ("\u{7ff}".as_bytes(), 3),
+                ("\u{800}".as_bytes(), 3),
+                ("\u{ffff}".as_bytes(), 4),
+                ("\u{10000}".as_bytes(), 4),
+                (b"\xff", 4),
+            ],
+        );
+    }
+
+    #[test]
+    fn of_paths_that_are_15_by_their_length() {
+        let (x127, x128) = ("x".repeat(127), "x".repeat(128));
+        let names = [&*x127, &*x128, "y"];
+        asked(
+            &names,
+            &[
+                (b"", 1),
+                (&[b'a'; 129], 1),
+                (&[b'x'; 126], 1),
+                (&[b'x'; 127], 1),
+                (&[b'x'; 128], 2),
+                (&[b'x'; 129], 3),
+                (&[b'x'; 300], 3),
+                (&[b'z'; 129], 3),
+            ],
+        );
+        let (state, file) = holding(&names);
+        for path in [&b""[..], &[b'a'; 129], &[b'x'; 129], &[b'x'; 300]] {
+            assert_eq!(state.find(&file, path).image, Err(NotListed));
+        }
+    }
+
+    #[test]
+    fn nothing_with_a_refusal_of_1_to_8() {
+        let names = ["b", "d", "f"];
+        let (mut state, sound) = holding(&names);
+        let signed = shelf::targets(7, EXPIRES, &table(&names));
+        let other_spec = signed.replace(r#""spec_version":"1""#, r#""spec_version":"2""#);
+        for path in [&b""[..], b"b", b"e", b"g", &[b'x'; 129]] {
+            for (given, refusal) in [
+                (padded(&sound, 32_769), TooLong),
+                ([&sound[..], b" "].concat(), NotCanonical),
+                (file(&[4], &signed.replace("\"_type\"", "\"_typf\"")), BrokenForm),
+                (file(&[4], &other_spec), SpecVersion),
+                (file(&[6], &signed), Differs),
+            ] {
+                assert_eq!(state.find(&given, path), refused(refusal), "{path:?}");
+            }
+            assert_eq!(State::blank().find(&sound, path), refused(NotHeld), "{path:?}");
+            state.cycle(1_893_456_000);
+            assert_eq!(state.find(&sound, path), refused(HeldExpired), "{path:?}");
+            state.cycle(NOW);
+        }
+        assert_eq!(state.find(&sound, b"d").compared, 2);
+    }
+
+    /// "Every answer and refusal of find stays as it is; a file that is not canonical is still refused as such."
+    #[test]
+    fn images_behind_the_path_are_still_judged() {
+        let (state, _) = holding(&["b", "d", "f"]);
+        let with = |table: &str| file(&[4], &shelf::targets(7, EXPIRES, table));
+        let broken_image = table(&["b", "d"]) + r#","f":{"length":1}"#;
+        for path in [&b"a"[..], b"b", b"c", b"d"] {
+            assert_eq!(state.find(&with(&broken_image), path), refused(BrokenForm));
+            for misplaced in [["b", "d", "c"], ["b", "d", "d"], ["d", "b", "f"]] {
+                assert_eq!(state.find(&with(&table(&misplaced)), path), refused(NotCanonical));
+            }
+        }
     }
 }
 

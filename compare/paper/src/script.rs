@@ -6,7 +6,7 @@ use std::path::Path;
 
 use crate::forms::Header;
 use crate::refusal::number_of;
-use crate::state::{self, State};
+use crate::state::{self, Found, State};
 use crate::{date, envelope, file, hex, sha256};
 
 /// "A file argument may be up to 1 MiB"
@@ -298,9 +298,13 @@ impl Script {
     }
 
     fn find(&self, file: &[u8], path: &[u8]) -> String {
-        match self.state.find(file, path) {
-            Ok(target) => format!("find 0 {} {}", target.length, target.sha256),
-            Err(refusal) => format!("find {} 0 {}", refusal.number(), hex::zeros(hex::OF_32_BYTES)),
+        let Found { image, compared } = self.state.find(file, path);
+        match image {
+            Ok(target) => format!("find 0 {} {} {compared}", target.length, target.sha256),
+            Err(refusal) => {
+                let zeros = hex::zeros(hex::OF_32_BYTES);
+                format!("find {} 0 {zeros} {compared}", refusal.number())
+            }
         }
     }
 }
@@ -426,7 +430,7 @@ mod tests {
                 "look 3 0 0 0".to_string(),
                 format!("entry 3 {zeros} {zeros}{zeros}"),
                 format!("key 6 {zeros}"),
-                format!("find 2 0 {zeros}"),
+                format!("find 2 0 {zeros} 0"),
                 "image 5".to_string(),
                 format!("install 2 {blank}"),
                 format!("root 2 {blank}"),

@@ -1,6 +1,6 @@
 //! "Steps": the trusted state, and what each call answers and changes.
 
-use std::collections::BTreeSet;
+use std::collections::{BTreeMap, BTreeSet};
 
 use crate::envelope::Entry;
 use crate::forms::{self, Header, Listed, Role, Root, Signed, Snapshot, TARGET_NAME_BYTES, Target, Timestamp};
@@ -33,6 +33,15 @@ pub struct HeldTargets {
     pub header: Header,
     /// The digest in hex.
     pub digest: String,
+}
+
+/// What find says.
+#[derive(Clone, Debug, PartialEq, Eq)]
+pub struct Found {
+    /// The image of the path, or why none is given.
+    pub image: Result<Target, Refusal>,
+    /// "how many names it compared"; with a refusal of 1 to 8 none.
+    pub compared: usize,
 }
 
 impl Default for State {
@@ -167,7 +176,21 @@ impl State {
     }
 
     /// Find (1 to 4, 6 to 8, 15): given the targets file and a path. It has no verdicts, and so 5 never holds.
-    pub fn find(&self, file: &[u8], path: &[u8]) -> Result<Target, Refusal> {
+    pub fn find(&self, file: &[u8], path: &[u8]) -> Found {
+        match self.images_in(file) {
+            Ok(images) => Found {
+                image: image_of(path, &images).ok_or(Refusal::NotListed),
+                compared: compared_with(path, &images),
+            },
+            Err(refusal) => Found {
+                image: Err(refusal),
+                compared: 0,
+            },
+        }
+    }
+
+    /// The images by path, if the file is the targets file that is held and may be leaned on (1 to 4, 6 to 8).
+    fn images_in(&self, file: &[u8]) -> Result<BTreeMap<String, Target>, Refusal> {
         let given = forms::targets(file)?.says;
         let mut objections = Objections::default();
         self.lean_on_root(&mut objections, |_| false);
@@ -177,14 +200,8 @@ impl State {
         if let Some(held) = &self.targets {
             objections.add_if(digest_of(file) != held.digest, Refusal::Differs);
         }
-        // "A path of length 0 or above 128 is 15." Such a name is in no list, and no other bytes than UTF-8 are.
-        let target = std::str::from_utf8(path)
-            .ok()
-            .filter(|path| TARGET_NAME_BYTES.contains(&path.len()))
-            .and_then(|path| given.targets.get(path));
-        objections.add_if(target.is_none(), Refusal::NotListed);
         objections.first()?;
-        target.cloned().ok_or(Refusal::NotListed)
+        Ok(given.targets)
     }
 
     /// "a held root's public key by keyid" (6, 15), in hex. The keyid asked for is any bytes.
@@ -236,6 +253,21 @@ impl State {
     fn listed_targets(&self) -> Option<&Listed> {
         self.snapshot.as_ref()?.meta.get("targets.json")
     }
+}
+
+/// "A path of length 0 or above 128 is 15." Such a name is in no list, and no other bytes than UTF-8 are.
+fn image_of(path: &[u8], images: &BTreeMap<String, Target>) -> Option<Target> {
+    let path = std::str::from_utf8(path).ok()?;
+    let fits = TARGET_NAME_BYTES.contains(&path.len());
+    images.get(path).filter(|_| fits).cloned()
+}
+
+/// "exactly the smaller ones, and one more where one is left": counted over the whole list, in whatever order it stands.
+fn compared_with(path: &[u8], images: &BTreeMap<String, Target>) -> usize {
+    let names = || images.keys().map(String::as_bytes);
+    let smaller = names().filter(|name| *name < path).count();
+    let is_one_left = names().any(|name| name >= path);
+    smaller + usize::from(is_one_left)
 }
 
 /// Image (5, 8): "the found length and digest against the fetched ones".

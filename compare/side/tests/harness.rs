@@ -61,6 +61,7 @@ fn good_answers_pass() {
     side("", &["--only", "look"]).must_pass("2 passed, 0 failed");
     side("", &["--only", "script"]).must_pass("2 passed, 0 failed");
     side("", &["--only", "sha256"]).must_pass("2 passed, 0 failed");
+    side("", &["--only", "search"]).must_pass("2 passed, 0 failed");
     for group in ["keys", "keyids", "images", "history, by name", "published examples"] {
         side("", &["--only", group]).must_pass("1 passed, 0 failed");
     }
@@ -405,6 +406,9 @@ fn mistakes_are_noticed_by_published_examples() {
             "same-root-taken",
             "expired-a-second-late",
             "find-digest-unchecked",
+            "compared-all",
+            "compared-the-smaller",
+            "compared-0-with-15",
             "key-gives-keyid",
             "look-from-1",
             "entry-from-1",
@@ -489,6 +493,9 @@ fn mistakes_are_noticed_by_the_signed_shelf() {
         "entry-from-1",
         "key-gives-keyid",
         "find-with-escapes",
+        "compared-all",
+        "compared-the-smaller",
+        "compared-0-with-15",
         "keyids-unchecked",
         "keyids-of-named-keys-only",
         "digest-of-the-signed-part",
@@ -613,6 +620,67 @@ fn mistakes_are_noticed_by_keyids() {
             "keyid-60-digits",
             "first-keyid-checked",
             "last-keyid-checked",
+        ],
+    );
+}
+
+#[test]
+fn mistakes_are_noticed_by_searches() {
+    must_notice(
+        "search, every place",
+        &[
+            "compared-all",
+            "compared-the-smaller",
+            "compared-one-more-always",
+            "compared-without-the-equal",
+            "compared-past-the-equal",
+            "compared-if-refused-1",
+            "compared-if-refused-2",
+            "compared-if-refused-3",
+            "compared-if-refused-4",
+            "compared-if-refused-6",
+            "compared-if-refused-7",
+            "compared-if-refused-8",
+            "compared-0-with-15",
+            "compared-all-with-15",
+            "compared-0-for-no-path",
+            "compared-0-for-long-paths",
+            "compared-all-for-long-paths",
+            "compared-128-bytes",
+            "compared-8-bit",
+            "compared-from-the-end",
+            "compared-by-halves",
+            "compared-with-escapes",
+            "compared-names-with-escapes",
+            "compared-names-with-quote",
+            "compared-signed-bytes",
+            "compared-as-utf16",
+            "compared-by-length",
+            "compared-longer-first",
+            "later-forms-unread",
+            "later-order-unread",
+        ],
+    );
+    must_notice(
+        "search, generated",
+        &[
+            "compared-all",
+            "compared-the-smaller",
+            "compared-one-more-always",
+            "compared-without-the-equal",
+            "compared-past-the-equal",
+            "compared-0-with-15",
+            "compared-all-with-15",
+            "compared-0-for-no-path",
+            "compared-0-for-long-paths",
+            "compared-all-for-long-paths",
+            "compared-with-escapes",
+            "compared-names-with-escapes",
+            "compared-names-with-quote",
+            "compared-signed-bytes",
+            "compared-as-utf16",
+            "compared-by-length",
+            "compared-longer-first",
         ],
     );
 }
@@ -765,6 +833,12 @@ fn mistakes_are_noticed_by_histories_by_name() {
             "find-in-any-case",
             "find-to-zero-byte",
             "find-31-bit",
+            "compared-all",
+            "compared-the-smaller",
+            "compared-without-the-equal",
+            "compared-if-refused-8",
+            "compared-0-with-15",
+            "compared-0-for-long-paths",
             "find-digest-unchecked",
             "rotation-missed",
             "snapshot-rotation-missed",
@@ -912,6 +986,12 @@ fn mistakes_about_times_and_what_is_current_are_noticed_by_histories() {
             "find-path-first",
             "find-127",
             "find-31-bit",
+            "compared-all",
+            "compared-the-smaller",
+            "compared-without-the-equal",
+            "compared-if-refused-8",
+            "compared-0-with-15",
+            "compared-0-for-long-paths",
         ],
     );
 }

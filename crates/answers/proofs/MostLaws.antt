@@ -1,30 +1,26 @@
 -- No call answers with a number above the highest, so that every answer has its name.
 use mathlib.Core.Path.{_≡_, refl}
-use mathlib.Core.Bool.{Bool, true, false, _&&_}
-use mathlib.Core.List.{List, [], _∷_}
+use mathlib.Core.Bool.{Bool, true}
+use mathlib.Core.List.{List}
 use Prim.Native.Nat.{ℕ, _≤_, min}
 use native.Mathlib.Omega.{arith}
 use lib.Dec.{leb}
 use borrow.Author.Tests.{leb-true}
 use Rattle.base.specs.Bytes.{Bytes}
-use Rattle.base.proofs.TestLaws.{both}
 use Rattle.rules.specs.Records.{Fault, tooLong, notText, badForm, otherKeyid, otherSpec, Read, refused, says}
 use Rattle.rules.specs.State.{State, Install, Call, newCycle, newRoot, newTimestamp, newSnapshot, newTargets, find, askKey, askState, rootIn, timestampIn, snapshotIn, targetsIn}
-use Rattle.rules.specs.Table.{Refusal, _when_, first}
+use Rattle.rules.specs.Table.{Refusal, first}
 use Rattle.rules.specs.Steps.{installTable, cycleTable, rootTable, timestampTable, snapshotTable, targetsTable, findTable, keyTable, faultNumber, judged, installAnswer, answer}
 use Rattle.rules.specs.Asked.{Found, imageTable, imageAnswer}
+use Rattle.rules.proofs.TableLaws.{every, first-every}
 use Rattle.answers.specs.Number.{highest}
 
 -- no line has a number above it
 abbrev below : List Refusal → Bool
-below [] = true
-below (n when b ∷ rest) = leb n highest && below rest
+below rows = every (λ n. leb n highest) rows
 
 first-most : (rows : List Refusal) → below rows ≡ true → first rows ≤ highest
-unfolding first
-first-most [] e = omega arith
-first-most (n when true ∷ rest) e = leb-true n highest (both (leb n highest) (below rest) e .0)
-first-most (n when false ∷ rest) e = first-most rest (both (leb n highest) (below rest) e .1)
+first-most rows e = leb-true (first rows) highest (first-every (λ n. leb n highest) rows refl e)
 
 pub fault-most : (f : Fault) → faultNumber f ≤ highest
 unfolding faultNumber

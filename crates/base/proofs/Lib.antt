@@ -1,5 +1,6 @@
 pub mod TestLaws
 pub mod PlaceLaws
 pub mod ByteLaws
+pub mod OrderLaws
 pub mod WindowLaws
 pub mod HexLaws

@@ -32,6 +32,7 @@ pub struct Image {
     pub answer: u8,
     pub length: u64,
     pub digest: Id,
+    pub compared: usize,
 }
 
 #[repr(C)]
@@ -118,7 +119,7 @@ pub extern "C" fn gronwythal_targets(state: State, file: &[u8], row: &[u8]) -> S
 
 #[no_mangle]
 pub extern "C" fn gronwythal_find(state: State, file: &[u8], path: &[u8]) -> Image
-    ensures { λ r. ⌜ FindsImage state (record { file = now (file .entry); path = now (path .entry) }) (r .answer) (viewImage r) ⌝ }
+    ensures { λ r. ⌜ FindsImage state (record { file = now (file .entry); path = now (path .entry) }) (r .answer) (viewImage r) (r .compared) ⌝ }
 {
     let found = state.find(file, path);
     let a = found.answer;
@@ -128,6 +129,7 @@ pub extern "C" fn gronwythal_find(state: State, file: &[u8], path: &[u8]) -> Ima
         answer,
         length: found.length,
         digest: listed,
+        compared: found.compared,
     }
 }
 

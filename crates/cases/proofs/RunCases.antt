@@ -14,7 +14,7 @@ use Rattle.rules.specs.Reading.{noTable, readAs}
 use Rattle.rules.specs.State.{blank, State, Call, Root, Timestamp, Snapshot, keepRoot, kept, targetsIn, newCycle, newTimestamp, newSnapshot, newTargets, find, askKey}
 use Rattle.rules.specs.Records.{Key, Role, Read, says}
 use Rattle.rules.specs.Steps.{answer, withStart, next}
-use Rattle.rules.specs.Asked.{Found, inTargets, publicKey, zeros, EntryAsked, entryAt}
+use Rattle.rules.specs.Asked.{Found, inTargets, comparedIn, publicKey, zeros, EntryAsked, entryAt}
 use Rattle.cases.proofs.Texts.{fileText, timestampText, snapshotText, targetsPart, quoted, m, n, k, l, keyText, roleText, rootText}
 use Rattle.rules.proofs.Cases.{Case, _gives_, Right}
 use Rattle.rules.proofs.Computing.{calls}
@@ -153,6 +153,18 @@ finds =
 pub finds-right : Right finds
 unfolding calls
 finds-right = refl
+
+-- the names compared: nothing of a file that cannot be read
+abbrev pub counts : List (Case ℕ)
+counts =
+    comparedIn (bytes "a/b") (targetsIn goodsFile) gives 1
+    ∷ comparedIn [] (targetsIn goodsFile) gives 1
+    ∷ comparedIn (bytes "a/b") (targetsIn []) gives 0
+    ∷ []
+
+pub counts-right : Right counts
+unfolding calls
+counts-right = refl
 
 abbrev pub publics : List (Case Bytes)
 publics =

@@ -8,6 +8,7 @@ use Rattle.rules.specs.Exactly.{RootRead, InstallExactly, ImageExactly, Demand2
 use Rattle.rules.specs.History.{History, run, end}
 use Rattle.rules.proofs.NextLaws.{next-refused, next-same}
 use Rattle.rules.proofs.ExactlyLaws.{root-good, good-root, root-after, timestamp-good, good-timestamp, timestamp-after, snapshot-good, good-snapshot, snapshot-after, targets-good, good-targets, targets-after, find-good, good-find, finds, finds-nothing, key-good, good-key, key-given, no-key, image-good, good-image, next-cycle, install-good, good-install, install-after, install-refused}
+use Rattle.rules.proofs.SearchLaws.{not-searched, was-searched, find-stops}
 use Rattle.history.proofs.Trusted.{read-next, read-installed}
 
 pub install-exactly : (o : Install) → InstallExactly o
@@ -37,6 +38,9 @@ demand2 s read =
       finds = λ q. (find-good s q, λ w. good-find s q (w .0) (w .1));
       findsImage = finds s;
       findRefused = finds-nothing s;
+      findCompared = was-searched s;
+      findUnsearched = not-searched s;
+      findStops = λ q g es e. find-stops (q .file) (q .path) g es e;
       keys = λ k. (key-good s k, λ w. good-key s k (w .0) (w .1));
       keyGiven = key-given s;
       keyRefused = no-key s;

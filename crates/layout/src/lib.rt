@@ -113,14 +113,15 @@ pub extern "C" fn layout_step(answer: u8, start: i64) -> Steps
 // ---- Structs of numbers and bytes
 
 #[no_mangle]
-pub extern "C" fn layout_image(answer: u8, length: u64, mark: u8) -> Images
-    ensures { λ r. ⌜ (r .first .answer ≡ answer) × (r .first .length ≡ length) × (r .first .digest .bytes ≡ replicate 32 mark) × (r .second ≡ r .first) ⌝ }
+pub extern "C" fn layout_image(answer: u8, length: u64, mark: u8, compared: usize) -> Images
+    ensures { λ r. ⌜ (r .first .answer ≡ answer) × (r .first .length ≡ length) × (r .first .digest .bytes ≡ replicate 32 mark) × (r .first .compared ≡ compared) × (r .second ≡ r .first) ⌝ }
 {
     let digest = id(mark);
     let one = Image {
         answer,
         length,
         digest,
+        compared,
     };
     Images {
         first: one,

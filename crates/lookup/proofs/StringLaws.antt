@@ -9,10 +9,10 @@ use native.Mathlib.Numerals.{add-one}
 use lib.Dec.{eqb, leb}
 use lib.ListN.{length, drop, take, getD, set, length-append, length-drop}
 use lib.Seq.{sets, sets-eq, take-at}
-use borrow.Author.Tests.{ne-eqb, eqb-true, eqb-false, le-leb, lt-leb, leb-true, leb-false}
-use Rattle.base.specs.Bytes.{Bytes, same}
+use borrow.Author.Tests.{eq-eqb, ne-eqb, lt-ltb, le-ltb, le-leb, lt-leb, leb-true, leb-false}
+use Rattle.base.specs.Bytes.{Bytes, same, less}
 use Rattle.base.proofs.PlaceLaws.{at-cons, at-end}
-use Rattle.base.proofs.ByteLaws.{same-none, same-cons, same-differ, same-lengths}
+use Rattle.base.proofs.OrderLaws.{less-differs}
 use Rattle.json.specs.Json.{Json, jnull, jtrue, jfalse, num, str, arr, obj, putBytes, isEscaped}
 use Rattle.json.specs.Read.{raw}
 use Rattle.json.specs.Names.{CharAt}
@@ -22,7 +22,9 @@ use Rattle.json.specs.Fields.{text}
 use Rattle.json.proofs.Puts.{put-str}
 use Rattle.json.proofs.CharsLaws.{neither}
 use Rattle.lookup.specs.Place.{Stands}
-use Rattle.lookup.specs.Leaves.{stringIn, copied, Copies}
+use Rattle.lookup.specs.Leaves.{stringIn, orderOf, copied, Copies}
+use Rattle.lookup.specs.declared.Order.{Order}
+use Rattle.lookup.specs.declared.Order.the-variants.{Smaller, Equal, Greater}
 use Rattle.lookup.specs.declared.Found.{Found}
 use Rattle.lookup.specs.declared.Found.the-variants.{Nothing, At}
 use Rattle.lookup.proofs.FirstByte.{beginsWith}
@@ -125,32 +127,65 @@ module _ (s : Bytes) (p : ℕ) (v : Json) (h : Stands s p v) (r : Found) (q : r 
   pub string-text : (i : ℕ) → r ≡ At i → drop i s ≡ putBytes (raw (drop i s)) (34 ∷ h .rest)
   string-text i e = string-standing s p i v h (sym q ∙ e)
 
--- ## Comparison with a name, one byte at a time: the string goes on at a, the name at j
+-- ## The order of strings, one byte at a time: the one goes on at a, the other at j
 
 module _ (a k : Bytes) (j : ℕ) where
-  pub name-ended : j ≤ length k → a ≡ [] → eqb j (length k) ≡ same a (drop j k)
-  name-ended h e = go (eqb j (length k)) refl
+  pub order-ended : a ≡ [] → length k ≤ j → orderOf a (drop j k) ≡ Equal
+  unfolding orderOf less same
+  order-ended e h = rw (e, at-end k j h) refl
+
+  pub order-prefix : a ≡ [] → j < length k → orderOf a (drop j k) ≡ Smaller
+  unfolding orderOf less
+  order-prefix e h = rw (e, at-cons k j h) refl
+
+  module _ (b : ℕ) (t : Bytes) (e : a ≡ b ∷ t) where
+    pub order-longer : length k ≤ j → orderOf a (drop j k) ≡ Greater
+    unfolding orderOf less same
+    order-longer h = rw (e, at-end k j h) refl
+
+    module _ (h : j < length k) where
+      pub order-below : b < getD k j 0 → orderOf a (drop j k) ≡ Smaller
+      unfolding orderOf less
+      order-below l = rw (e, at-cons k j h, ne-eqb b (getD k j 0) (λ (q : b ≡ getD k j 0). omega arith), lt-ltb b (getD k j 0) l) refl
+
+      pub order-above : getD k j 0 < b → orderOf a (drop j k) ≡ Greater
+      unfolding orderOf less same
+      order-above l = rw (e, at-cons k j h, ne-eqb b (getD k j 0) (λ (q : b ≡ getD k j 0). omega arith), le-ltb b (getD k j 0) (omega arith)) refl
+
+      pub order-next : b ≡ getD k j 0 → orderOf a (drop j k) ≡ orderOf t (drop (j + 1) k)
+      unfolding orderOf less same
+      order-next q = rw (e, at-cons k j h, eq-eqb b (getD k j 0) q) refl
+
+-- what an order says
+
+abbrev pub isSmaller : Order → Bool
+isSmaller Smaller = true
+isSmaller Equal = false
+isSmaller Greater = false
+
+abbrev pub isEqual : Order → Bool
+isEqual Smaller = false
+isEqual Equal = true
+isEqual Greater = false
+
+module _ (a b : Bytes) (r x : Order) (w : r ≡ orderOf a b) (e : r ≡ x) where
+  pub order-less : isSmaller x ≡ less a b
+  unfolding orderOf
+  order-less = ap isSmaller (sym e ∙ w) ∙ go (less a b) (same a b)
     where
-      go : (x : Bool) → eqb j (length k) ≡ x → eqb j (length k) ≡ same a (drop j k)
-      go true f = let g : j ≡ length k = eqb-true j (length k) f in f ∙ sym (rw (e, at-end k j (omega arith)) same-none)
-      go false f =
-          let n : (j ≡ length k → ⊥) = eqb-false j (length k) f in
-          let d = length-drop j k in
-          let l = ap length e in
-          f ∙ sym (same-lengths a (drop j k) (λ (z : length a ≡ length (drop j k)). omega arith))
+      go : (l t : Bool) → isSmaller (cond l Smaller (cond t Equal Greater)) ≡ l
+      go true t = refl
+      go false true = refl
+      go false false = refl
 
-  pub name-shorter : (b : ℕ) (t : Bytes) → a ≡ b ∷ t → length k ≤ j → same a (drop j k) ≡ false
-  name-shorter b t e h =
-      let d = ap length (at-end k j h) in
-      let l = ap length e in
-      same-lengths a (drop j k) (λ (z : length a ≡ length (drop j k)). omega arith)
-
-  module _ (b : ℕ) (t : Bytes) (e : a ≡ b ∷ t) (h : j < length k) where
-    pub name-differs : (b ≡ getD k j 0 → ⊥) → same a (drop j k) ≡ false
-    name-differs n = rw (e, at-cons k j h) (same-differ _ _ _ _ n)
-
-    pub name-next : b ≡ getD k j 0 → same a (drop j k) ≡ same t (drop (j + 1) k)
-    name-next n = rw (e, at-cons k j h) (same-cons _ _ _ _ n)
+  pub order-same : isEqual x ≡ same a b
+  unfolding orderOf
+  order-same = ap isEqual (sym e ∙ w) ∙ go (less a b) refl (same a b) refl
+    where
+      go : (l : Bool) → less a b ≡ l → (t : Bool) → same a b ≡ t → isEqual (cond l Smaller (cond t Equal Greater)) ≡ same a b
+      go true p t q = sym (less-differs a b p)
+      go false p true q = sym q
+      go false p false q = sym q
 
 -- ## Copying to the front of a buffer
 

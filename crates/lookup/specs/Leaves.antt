@@ -7,10 +7,12 @@ use Prim.Native.Nat.{ℕ, _+_, _-_, _*_}
 use Prim.Native.Char.{code}
 use lib.Dec.{leb, eqb}
 use lib.ListN.{length, drop}
-use Rattle.base.specs.Bytes.{Bytes, isDigit}
+use Rattle.base.specs.Bytes.{Bytes, same, less, isDigit}
 use Rattle.json.specs.Fields.{keep, between}
 use Rattle.lookup.specs.declared.Found.{Found}
 use Rattle.lookup.specs.declared.Found.the-variants.{Nothing, At}
+use Rattle.lookup.specs.declared.Order.{Order}
+use Rattle.lookup.specs.declared.Order.the-variants as order
 use Rattle.lookup.specs.declared.Number.{Number}
 use Rattle.lookup.specs.declared.Number.the-variants as number
 use Rattle.lookup.specs.declared.Truth.{Truth}
@@ -22,6 +24,10 @@ use Rattle.lookup.specs.declared.Truth.the-variants as truth
 unfoldable pub stringIn : ℕ → Bytes → Found
 stringIn p [] = Nothing
 stringIn p (b ∷ t) = cond (eqb b (code "\"")) (At (p + 1)) Nothing
+
+-- how a stands to b in the order of names
+unfoldable pub orderOf : Bytes → Bytes → Order
+orderOf a b = cond (less a b) order.Smaller (cond (same a b) order.Equal order.Greater)
 
 -- a buffer after the bytes t were copied to its front, where they fit
 unfoldable pub copied : Bytes → Bytes → Bytes

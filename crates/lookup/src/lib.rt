@@ -7,7 +7,7 @@ ghost use Rattle.json.specs.Read.{raw};
 ghost use Rattle.lookup.specs.Place.{EndsAt, KnownEnd, FoundEnd, EndsBy, FindsMember, note, FindsMembers};
 ghost use Rattle.lookup.specs.declared.Found.the-variants.{Nothing};
 ghost use Rattle.lookup.specs.Walk.{Opens, Follows, FirstElement, NextElement, NextElementBy, MemberAt, FirstMember, NextMember, NextMemberBy};
-ghost use Rattle.lookup.specs.Leaves.{stringIn, Copies, leadingTo, numberIn, viewNumber, truthIn, viewTruth};
+ghost use Rattle.lookup.specs.Leaves.{stringIn, orderOf, Copies, leadingTo, numberIn, viewNumber, truthIn, viewTruth};
 use json::Char;
 use json::Skip;
 
@@ -364,28 +364,52 @@ pub fn string_at(s: &[u8], at: usize) -> Found
     Found::At(at + 1)
 }
 
-// Whether the string is `k`.
-pub fn text_is(s: &[u8], i: usize, k: &[u8]) -> bool
-    ensures { λ r. ⌜ r ≡ same (raw (drop i (now (s .entry)))) (now (k .entry)) ⌝ }
+// How a string stands to another in the order of names.
+pub enum Order {
+    Smaller,
+    Equal,
+    Greater,
+}
+
+// How the string stands to `k`: byte by byte, a shorter prefix first.
+pub fn text_order(s: &[u8], i: usize, k: &[u8]) -> Order
+    ensures { λ r. ⌜ r ≡ orderOf (raw (drop i (now (s .entry)))) (now (k .entry)) ⌝ }
 {
     let mut p = i;
     let mut j = 0;
     loop {
         match json::char_at(s, p) {
             Char::Close => {
-                return j == k.len();
+                if j == k.len() {
+                    return Order::Equal;
+                }
+                return Order::Smaller;
             }
             Char::Byte(b, next) => {
                 if k.len() <= j {
-                    return false;
+                    return Order::Greater;
                 }
-                if b != k[j] {
-                    return false;
+                if b < k[j] {
+                    return Order::Smaller;
+                }
+                if k[j] < b {
+                    return Order::Greater;
                 }
                 p = next;
                 j += 1;
             }
         }
+    }
+}
+
+// Whether the string is `k`.
+pub fn text_is(s: &[u8], i: usize, k: &[u8]) -> bool
+    ensures { λ r. ⌜ r ≡ same (raw (drop i (now (s .entry)))) (now (k .entry)) ⌝ }
+{
+    match text_order(s, i, k) {
+        Order::Smaller => false,
+        Order::Equal => true,
+        Order::Greater => false,
     }
 }
 

@@ -165,7 +165,8 @@ pub fn image(r: Image) {
     let c = script::append(line, b, b" ");
     let d = script::append_number(line, c, r.length);
     let e = append_bytes(line, d, &digest.bytes);
-    put_line(line, e);
+    let f = append_count(line, e, r.compared);
+    put_line(line, f);
 }
 
 pub fn step(name: &[u8], r: Step) {

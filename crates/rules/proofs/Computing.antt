@@ -15,8 +15,9 @@ use Rattle.rules.specs.Reading.{whole, parsed, judgedText, readWith, key
 use Rattle.rules.specs.State.{blank, filter, keepRole, keepRoot, keepTimestamp, keepSnapshot, keepTargets, kept, rootIn, timestampIn, snapshotIn, targetsIn}
 use Rattle.rules.specs.Table.{first}
 use Rattle.rules.specs.Conditions.{badRow, otherVersion, listedAs, targetsEntry, staleSnapshot, staleTargets, otherLength, otherDigest, signed, count, tooFew, fallen, lost, within, rotated, rotates, rotatesTargets, imageOf, keyOf}
+use Rattle.rules.specs.Search.{paths, smaller, compared}
 use Rattle.rules.specs.Steps.{installTable, cycleTable, rootTable, timestampTable, snapshotTable, targetsTable, findTable, keyTable, faultNumber, judged, installAnswer, answer, refuses, withStart, withRoot, withTimestamp, withSnapshot, withTargets, afterRoot, trusting, whatSays, offered, started, trustingIf, accepted, next, rootAlone, begun, installed}
-use Rattle.rules.specs.Asked.{nothingFound, theImage, inTargets, found, publicOf, inRoot, publicKey, lookOf, look, noEntry, nth, theEntry, entryIn, entryAt}
+use Rattle.rules.specs.Asked.{nothingFound, theImage, inTargets, found, comparedIn, unsearched, comparedBy, publicOf, inRoot, publicKey, lookOf, look, noEntry, nth, theEntry, entryIn, entryAt}
 
 unfoldable pub dates : Unit {0}
 unfolding fits hasForm dateOf civilTime timeOf epoch secondNumber dayNumber yearsBefore firstMonths expired
@@ -34,10 +35,10 @@ forms = tt
 
 -- the refusals of a call, on what a file says
 unfoldable pub tables : Unit {0}
-unfolding dates same isIn filter first badRow otherVersion listedAs targetsEntry staleSnapshot staleTargets otherLength otherDigest signed count tooFew fallen lost within rotated rotates rotatesTargets imageOf keyOf installTable cycleTable rootTable timestampTable snapshotTable targetsTable findTable keyTable withRoot
+unfolding dates same less isIn filter first badRow otherVersion listedAs targetsEntry staleSnapshot staleTargets otherLength otherDigest signed count tooFew fallen lost within rotated rotates rotatesTargets imageOf keyOf paths smaller compared installTable cycleTable rootTable timestampTable snapshotTable targetsTable findTable keyTable withRoot
 tables = tt
 
 -- a call, and what it gives
 unfoldable pub calls : Unit {0}
-unfolding forms tables blank keepRole keepRoot keepTimestamp keepSnapshot keepTargets kept rootIn timestampIn snapshotIn targetsIn faultNumber judged installAnswer answer refuses withStart withTimestamp withSnapshot withTargets afterRoot trusting whatSays offered started trustingIf accepted next rootAlone begun installed nothingFound theImage inTargets found publicOf inRoot publicKey lookOf look noEntry nth theEntry entryIn entryAt
+unfolding forms tables blank keepRole keepRoot keepTimestamp keepSnapshot keepTargets kept rootIn timestampIn snapshotIn targetsIn faultNumber judged installAnswer answer refuses withStart withTimestamp withSnapshot withTargets afterRoot trusting whatSays offered started trustingIf accepted next rootAlone begun installed nothingFound theImage inTargets found comparedIn unsearched comparedBy publicOf inRoot publicKey lookOf look noEntry nth theEntry entryIn entryAt
 calls = tt

@@ -2,7 +2,7 @@ pub mod OptionLaws
 pub mod ListLaws
 pub mod WordLaws
 pub mod ReadingLaws
-pub mod OrderLaws
+pub mod HexLaws
 pub mod RootLaws
 pub mod KeyidLaws
 pub mod SnapshotLaws
@@ -11,5 +11,6 @@ pub mod Computing
 pub mod Cases
 pub mod StepCases
 pub mod TableLaws
+pub mod SearchLaws
 pub mod NextLaws
 pub mod ExactlyLaws

@@ -12,6 +12,7 @@ use lib.ListN.{length}
 use Rattle.base.specs.Bytes.{Bytes, bytes, same, less}
 use Rattle.base.specs.Hex.{isHex, undo}
 use Rattle.base.proofs.TestLaws.{never, both}
+use Rattle.base.proofs.OrderLaws.{less-self, less-trans}
 use Rattle.json.specs.Json.{Json, jnull, jtrue, jfalse, num, str, arr, obj, Members, mnil, mcons, Valid, ValidMembers, ValidMore, maxDepth}
 use Rattle.json.specs.Fields.{members, lookup, field, count}
 use Rattle.rules.specs.Limits.{keySize, maxKeys}
@@ -24,7 +25,7 @@ use Rattle.rules.specs.State.{Root, filter, keepRole, keepRoot, rootIn}
 use Rattle.rules.specs.Words.{Different, SameKeys}
 use Rattle.rules.proofs.OptionLaws.{none-not-some, some-is, had, kept-is, number-within}
 use Rattle.rules.proofs.ListLaws.{different-true, all-true, is-in, no-longer, filtered, filter-different}
-use Rattle.rules.proofs.OrderLaws.{less-self, less-trans, hex-one}
+use Rattle.rules.proofs.HexLaws.{hex-one}
 use Rattle.rules.proofs.ReadingLaws.{parsed-exactly, role-file, body-is, kept-says}
 
 -- ## Members of a valid value are valid

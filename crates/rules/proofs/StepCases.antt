@@ -16,8 +16,9 @@ use Rattle.rules.specs.Forms.{knownSpec}
 use Rattle.rules.specs.State.{Root, Timestamp, Snapshot, State, Row}
 use Rattle.rules.specs.Table.{first, absent}
 use Rattle.rules.specs.Conditions.{badDigest}
+use Rattle.rules.specs.Search.{compared}
 use Rattle.rules.specs.Steps.{installTable, rootTable, timestampTable, snapshotTable, targetsTable, findTable, withRoot}
-use Rattle.rules.specs.Asked.{imageTable, imageAnswer}
+use Rattle.rules.specs.Asked.{unsearched, imageTable, imageAnswer}
 use Rattle.rules.proofs.Cases.{Case, _gives_, Right, a, b, both}
 use Rattle.rules.proofs.Computing.{tables, forms}
 
@@ -287,6 +288,45 @@ paths =
 pub paths-right : Right paths
 unfolding forms
 paths-right = refl
+
+-- ## The names that find compares: "exactly the smaller ones, and one more where one is left"
+
+abbrev pub three : List Bytes
+three = bytes "a" ∷ bytes "a!" ∷ bytes "b" ∷ []
+
+abbrev pub counts : List (Case ℕ)
+counts =
+    -- before the first name, by its length too
+    compared [] three gives 1
+    ∷ compared (bytes "A") three gives 1
+    -- at each name
+    ∷ compared (bytes "a") three gives 1
+    ∷ compared (bytes "a!") three gives 2
+    ∷ compared (bytes "b") three gives 3
+    -- between two names, "a shorter prefix first"
+    ∷ compared (bytes "a ") three gives 2
+    ∷ compared (bytes "aa") three gives 3
+    -- after the last name, none is left
+    ∷ compared (bytes "ba") three gives 3
+    ∷ compared (replicate 129 99) three gives 3
+    -- nothing is listed
+    ∷ compared (bytes "a") [] gives 0
+    ∷ []
+
+pub counts-right : Right counts
+unfolding tables
+counts-right = refl
+
+-- with a refusal of 1 to 8 nothing was searched; with 0 and 15 all was
+abbrev pub searches : List (Case (List Bool))
+searches =
+    map unsearched (1 ∷ 2 ∷ 3 ∷ 4 ∷ 6 ∷ 7 ∷ 8 ∷ []) gives (true ∷ true ∷ true ∷ true ∷ true ∷ true ∷ true ∷ [])
+    ∷ map unsearched (0 ∷ 15 ∷ []) gives (false ∷ false ∷ [])
+    ∷ []
+
+pub searches-right : Right searches
+unfolding unsearched
+searches-right = refl
 
 -- ## spec_version: "exactly `1` or beginning with `1.`"
 

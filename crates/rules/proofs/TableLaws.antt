@@ -31,6 +31,20 @@ clear-first [] p = refl
 clear-first (n when true ∷ rest) p = never (p .0)
 clear-first (n when false ∷ rest) p = clear-first rest (p .1)
 
+-- ## What holds of every number of a table, and of 0, holds of its answer
+
+abbrev pub every : (ℕ → Bool) → List Refusal → Bool
+every p [] = true
+every p (n when b ∷ rest) = p n && every p rest
+
+pub first-every : (p : ℕ → Bool) (rows : List Refusal) → p 0 ≡ true → every p rows ≡ true → p (first rows) ≡ true
+unfolding first
+first-every p [] z e = z
+first-every p (n when true ∷ rest) z e = both (p n) (every p rest) e .0
+first-every p (n when false ∷ rest) z e = first-every p rest z (both (p n) (every p rest) e .1)
+
+-- ## Rising numbers
+
 -- the numbers do not fall, and none is below m
 abbrev pub rising : ℕ → List Refusal → Bool
 rising m [] = true
@@ -84,6 +98,15 @@ fault-refuses notText e = omega arith
 fault-refuses badForm e = omega arith
 fault-refuses otherKeyid e = omega arith
 fault-refuses otherSpec e = omega arith
+
+-- reading does not answer "not listed"
+pub fault-unlisted : (f : Fault) → ¬ (faultNumber f ≡ 15)
+unfolding faultNumber
+fault-unlisted tooLong e = omega arith
+fault-unlisted notText e = omega arith
+fault-unlisted badForm e = omega arith
+fault-unlisted otherKeyid e = omega arith
+fault-unlisted otherSpec e = omega arith
 
 -- a file that was judged 0 was read, and no condition of the table holds of what it says
 pub record Judged {A : Type 0} (rd : Read A) (table : A → List Bytes → List Refusal) : Type 0 where

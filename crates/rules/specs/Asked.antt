@@ -1,9 +1,9 @@
 -- What the calls give besides an answer and a state: find, key, image, look, entry (01, "Text" and "Steps"). A refusal gives zeros.
 use mathlib.Core.Option.{Option, none, some}
-use mathlib.Core.Bool.{cond, not}
+use mathlib.Core.Bool.{Bool, cond, not, _&&_}
 use mathlib.Core.List.{List, [], _∷_}
 use Prim.Native.Nat.{ℕ, zero, suc}
-use lib.Dec.{eqb}
+use lib.Dec.{eqb, leb}
 use lib.ListN.{length, take, drop, replicate}
 use Rattle.base.specs.Bytes.{Bytes, same}
 use Rattle.base.specs.Hex.{undo}
@@ -14,6 +14,7 @@ use Rattle.rules.specs.Reading.{readEnvelope}
 use Rattle.rules.specs.State.{Root, State, targetsIn, Query, find, askKey}
 use Rattle.rules.specs.Table.{Refusal, _when_, first}
 use Rattle.rules.specs.Conditions.{badDigest, imageOf, keyOf}
+use Rattle.rules.specs.Search.{paths, compared}
 use Rattle.rules.specs.Steps.{faultNumber, answer, refuses}
 
 abbrev pub zeros : ℕ → Bytes
@@ -38,6 +39,19 @@ inTargets path (says g es) = theImage (imageOf path (g .body))
 
 unfoldable pub found : State → Query → Found
 found s q = cond (refuses (find q) (answer s (find q))) nothingFound (inTargets (q .path) (targetsIn (q .file)))
+
+-- A2: how many names the search compared
+unfoldable pub comparedIn : Bytes → Read (File (List Image)) → ℕ
+comparedIn path (refused f) = 0
+comparedIn path (says g es) = compared path (paths (g .body))
+
+-- a refusal of "1 to 8", with which nothing is searched
+unfoldable pub unsearched : ℕ → Bool
+unsearched n = leb 1 n && leb n 8
+
+-- the number is given with 0 and 15; "with a refusal of 1 to 8 it is 0"
+unfoldable pub comparedBy : State → Query → ℕ
+comparedBy s q = cond (unsearched (answer s (find q))) 0 (comparedIn (q .path) (targetsIn (q .file)))
 
 -- ## Key: "a held root's public key by keyid (32 bytes)"
 

@@ -1,7 +1,7 @@
 -- For each call: all of its conditions, in 01's words ("Steps"). A call answers 0 exactly when they hold, and then the state, or what was
 -- asked for, is the one that is named here: demand 2 is the record `Demand2`. The crate history proves it.
 use mathlib.Core.Path.{_≡_}
-use mathlib.Core.Logic.{_↔_}
+use mathlib.Core.Logic.{_↔_, _⊎_}
 use mathlib.Core.Bool.{true}
 use mathlib.Core.Option.{some}
 use mathlib.Core.List.{List}
@@ -15,8 +15,9 @@ use Rattle.rules.specs.Limits.{maxPath, keySize}
 use Rattle.rules.specs.Records.{Key, Image, File, says}
 use Rattle.rules.specs.State.{Root, Timestamp, Snapshot, Targets, State, blank, rootIn, timestampIn, snapshotIn, targetsIn, keepTargets, Install, RootOffer, FileOffer, Query, Call, newCycle, newRoot, newTimestamp, newSnapshot, newTargets, find, askKey, askState}
 use Rattle.rules.specs.Conditions.{targetsEntry, imageOf, keyOf}
+use Rattle.rules.specs.Search.{paths, compared, stopping, searched}
 use Rattle.rules.specs.Steps.{installAnswer, installed, rootAlone, answer, next, withStart, withRoot, withTimestamp, withSnapshot, withTargets}
-use Rattle.rules.specs.Asked.{Found, nothingFound, found, zeros, publicKey, imageAnswer}
+use Rattle.rules.specs.Asked.{Found, nothingFound, found, comparedBy, zeros, publicKey, imageAnswer}
 use Rattle.rules.specs.Words.{GoodRow, GoodDigest, Enough, Expired, Keeps, Matches}
 
 -- ## Records that a step needs or leans on
@@ -155,6 +156,13 @@ pub record Demand2 (s : State) : Type 0 where
   pub finds : (q : Query) → (answer s (find q) ≡ 0) ↔ ((i : Image) × FindGood s q i)
   pub findsImage : (q : Query) (i : Image) → FindGood s q i → found s q ≡ record { length = i .length; digest = i .digest }
   pub findRefused : (q : Query) → ¬ (answer s (find q) ≡ 0) → found s q ≡ nothingFound
+  -- A2: the number of names compared is given "whenever 1 to 8 do not hold"; "with a refusal of 1 to 8 it is 0"
+  pub findCompared : (q : Query) (g : File (List Image)) (es : List Bytes) → targetsIn (q .file) ≡ says g es
+      → (answer s (find q) ≡ 0) ⊎ (answer s (find q) ≡ 15) → comparedBy s q ≡ compared (q .path) (paths (g .body))
+  pub findUnsearched : (q : Query) → ¬ (answer s (find q) ≡ 0) → ¬ (answer s (find q) ≡ 15) → comparedBy s q ≡ 0
+  -- A2: the search that stops finds and counts as the definitions do
+  pub findStops : (q : Query) (g : File (List Image)) (es : List Bytes) → targetsIn (q .file) ≡ says g es
+      → stopping (q .path) (g .body) ≡ searched (q .path) (g .body)
   pub keys : (k : Bytes) → (answer s (askKey k) ≡ 0) ↔ ((x : Key) × KeyGood s k x)
   pub keyGiven : (k : Bytes) (x : Key) → KeyGood s k x → publicKey s k ≡ x .public
   pub keyRefused : (k : Bytes) → ¬ (answer s (askKey k) ≡ 0) → publicKey s k ≡ zeros keySize

@@ -6,6 +6,7 @@ pub mod Reading
 pub mod State
 pub mod Table
 pub mod Conditions
+pub mod Search
 pub mod Steps
 pub mod Asked
 pub mod Lowest

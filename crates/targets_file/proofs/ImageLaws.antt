@@ -2,40 +2,44 @@
 use mathlib.Core.Path.{_≡_, refl, sym, ap, _∙_}
 use mathlib.Core.List.{List, [], _∷_, _++_}
 use mathlib.Core.Option.{Option, none, some, bind}
-use mathlib.Core.Bool.{Bool, true, false, cond, and-false, _&&_}
+use mathlib.Core.Bool.{Bool, true, false, cond, not, and-false, _&&_}
 use Prim.Native.Nat.{ℕ, _+_, _≤_, _<_}
 use native.Mathlib.Omega.{arith}
 use lib.Dec.{leb}
 use lib.ListN.{length, drop}
 use borrow.Author.Tests.{le-leb, lt-leb}
-use Rattle.base.specs.Bytes.{Bytes, bytes, same}
-use Rattle.base.specs.Hex.{isHex, undo}
+use Rattle.base.specs.Bytes.{Bytes, bytes, same, less}
+use Rattle.base.specs.Hex.{isHex}
 use Rattle.base.proofs.TestLaws.{never}
 use Rattle.base.proofs.ByteLaws.{same-sym}
-use Rattle.json.specs.Json.{Json, Members}
+use Rattle.base.proofs.OrderLaws.{less-differs}
+use Rattle.json.specs.Json.{Json, Members, Valid, maxDepth}
 use Rattle.json.specs.Read.{raw}
 use Rattle.json.specs.Fields.{members, field, count, keep, number}
 use Rattle.lookup.specs.Place.{Stands, Takes}
 use Rattle.lookup.specs.Walk.{FirstMember, NextMember}
+use Rattle.lookup.specs.Leaves.{orderOf}
+use Rattle.lookup.specs.declared.Order.{Order}
 use Rattle.lookup.specs.declared.Found.the-variants.{Nothing}
 use Rattle.lookup.proofs.StandsLaws.{known-none}
+use Rattle.lookup.proofs.StringLaws.{isSmaller, isEqual, order-less, order-same}
 use Rattle.lookup.specs.declared.Member.{Member}
 use Rattle.lookup.specs.declared.Member.the-variants as member
 use Rattle.rules.specs.Limits.{digestSize, maxLength, maxTargets, maxPath}
 use Rattle.rules.specs.Take.{_>>=_, must, nameOf, eachNamed}
 use Rattle.rules.specs.Records.{Image}
 use Rattle.rules.specs.Forms.{sha256, image, images}
-use Rattle.rules.specs.Conditions.{imageOf}
+use Rattle.rules.specs.Search.{stopping, after, searched}
 use Rattle.rules.specs.Asked.{Found}
-use Rattle.rules.proofs.OptionLaws.{kept-is}
-use Rattle.records.specs.View.{viewId}
+use Rattle.rules.proofs.SearchLaws.{early-stop, images-rise}
 use Rattle.forms.specs.Each.{eachMember}
 use Rattle.forms.proofs.EachLaws.{MembersWalk, members-first, members-none, members-over, members-full, members-broken, members-next}
 use Rattle.forms.proofs.ListedLaws.{keep-in}
 use Rattle.envelope.proofs.OpenLaws.{cut, held}
-use Rattle.targets_file.specs.View.{description, described, viewImage, ReadsImage, ReadsNamed, listedImage, imageIn, viewImages}
-use Rattle.targets_file.specs.Pass.{withImage, OneMore}
+use Rattle.targets_file.specs.View.{description, described, viewImage, ReadsImage, ReadsNamed, imageAs, foundOf, listing, listingIn, Sought, viewSearch, listed, viewImages}
+use Rattle.targets_file.specs.Pass.{going, comparing, withImage, seek, OneMore}
 use Rattle.targets_file.specs.declared.ImageAt.{ImageAt}
+use Rattle.targets_file.specs.declared.Search.{Search}
 use Rattle.targets_file.specs.declared.ImagesAt.{ImagesAt}
 
 -- ## An image, step by step
@@ -77,7 +81,7 @@ module _ (t : Bytes) (v : Json) where
 
 module _ (s : Bytes) (i p : ℕ) (r : ImageAt) where
   pub reads-named : 1 ≤ length (raw (drop i s)) → length (raw (drop i s)) ≤ maxPath → ReadsImage s p r → ReadsNamed s i p r
-  unfolding viewImage described
+  unfolding viewImage imageAs described
   reads-named lo hi w = record {
     means = λ v h.
         keep-in (r .ok) (described s r) (under (raw (drop i s)))
@@ -99,32 +103,80 @@ module _ (s : Bytes) (p : ℕ) (r : ImageAt) (o : r .ok ≡ false) (e : r .end �
   unfolding viewImage
   broken-name i f = record { means = λ v h. cut _ _ o ∙ f v h; digits = no-digits; end = known-none s p _ e }
 
--- ## The image of a path
+-- ## The search
 
-abbrev theFound : Image → Found
-theFound i = record { length = i .length; digest = i .digest }
+with-over : (path : Bytes) (r : Sought) (i : Image) → r .over ≡ true → withImage path r i ≡ r
+unfolding withImage
+with-over path r i o = ap (λ (b : Bool). cond b r (comparing path r i)) o
 
--- the first image of that path counts: one more is looked at where none was found before
-listed-last : (path : Bytes) (is : List Image) (i : Image) → listedImage path (is ++ (i ∷ [])) ≡ withImage (listedImage path is) (theFound i) (same path (i .path))
-unfolding listedImage imageOf withImage bind keep
-listed-last path [] i = go (same path (i .path))
+with-next : (path : Bytes) (r : Sought) (i : Image) → r .over ≡ false → withImage path r i ≡ comparing path r i
+unfolding withImage
+with-next path r i o = ap (λ (b : Bool). cond b r (comparing path r i)) o
+
+-- past a smaller name it goes on
+compare-smaller : (path : Bytes) (n : ℕ) (i : Image) → less (i .path) path ≡ true → comparing path (going n) i ≡ going (n + 1)
+unfolding comparing going keep
+compare-smaller path n i e = rw (e, same-sym path (i .path), less-differs (i .path) path e) refl
+
+-- once it is over it stays as it is
+seek-over : (path : Bytes) (r : Sought) (is : List Image) → r .over ≡ true → seek path r is ≡ r
+unfolding seek
+seek-over path r [] o = refl
+seek-over path r (i ∷ is) o = ap (λ (x : Sought). seek path x is) (with-over path r i o) ∙ seek-over path r is o
+
+seek-last : (path : Bytes) (r : Sought) (is : List Image) (i : Image) → seek path r (is ++ (i ∷ [])) ≡ withImage path (seek path r is) i
+unfolding seek
+seek-last path r [] i = refl
+seek-last path r (x ∷ is) i = seek-last path (withImage path r x) is i
+
+-- while it is not over, every name was compared
+with-all : (path : Bytes) (r : Sought) (i : Image) (n : ℕ) → (r .over ≡ false → r .compared ≡ n)
+    → withImage path r i .over ≡ false → withImage path r i .compared ≡ n + 1
+unfolding comparing
+with-all path r i n all h = go (r .over) refl
   where
-    go : (b : Bool) → (cond b (some i) none >>= λ i. some (theFound i)) ≡ keep b (theFound i)
-    go true = refl
-    go false = refl
-listed-last path (x ∷ is) i = go (same path (x .path)) (imageOf path is) (imageOf path (is ++ (i ∷ []))) (listed-last path is i)
+    go : (b : Bool) → r .over ≡ b → withImage path r i .compared ≡ n + 1
+    go true o = never (sym o ∙ sym (ap (λ (x : Sought). x .over) (with-over path r i o)) ∙ h)
+    go false o = ap (λ (x : Sought). x .compared) (with-next path r i o) ∙ ap (λ (c : ℕ). c + 1) (all o)
+
+-- after n smaller names it finds what the search that stops does, and compared n more
+abbrev Stops : Bytes → ℕ → List Image → Type 0
+Stops path n is = listed (seek path (going n) is) ≡ record { image = foundOf (stopping path is .image); compared = n + stopping path is .compared }
+
+seek-stops : (path : Bytes) (n : ℕ) (is : List Image) → Stops path n is
+unfolding seek going withImage comparing stopping after listed foundOf keep bind
+seek-stops path n [] = ap (λ (k : ℕ). record { image = none; compared = k }) (omega arith)
+seek-stops path n (i ∷ is) = go (less (i .path) path) refl (seek-stops path (n + 1) is)
   where
-    go : (b : Bool) (before after : Option Image) → (after >>= λ i. some (theFound i)) ≡ withImage (before >>= λ i. some (theFound i)) (theFound i) (same path (i .path))
-        → (cond b (some x) after >>= λ i. some (theFound i)) ≡ withImage (cond b (some x) before >>= λ i. some (theFound i)) (theFound i) (same path (i .path))
-    go true before after e = refl
-    go false before after e = e
+    found-is : (b : Bool) → keep b (found (i .length) (i .digest)) ≡ foundOf (keep b i)
+    found-is true = refl
+    found-is false = refl
+
+    go : (b : Bool) → less (i .path) path ≡ b → Stops path (n + 1) is → Stops path n (i ∷ is)
+    go true e more =
+        let k : n + 1 + stopping path is .compared ≡ n + (1 + stopping path is .compared) = omega arith in
+        ap (λ (r : Sought). listed (seek path r is)) (compare-smaller path n i e)
+        ∙ more ∙ rw e (ap (λ (k : ℕ). record { image = foundOf (stopping path is .image); compared = k }) k)
+    go false e more =
+        ap listed (seek-over path (comparing path (going n) i) is (ap not e))
+        ∙ rw e (ap (λ (o : Option Found). record { image = o; compared = n + 1 }) (found-is (same path (i .path))))
+
+-- the images of a value that stands in the text: their names rise
+module _ (path : Bytes) (v : Json) (valid : Valid v maxDepth) (is : List Image) (e : images v ≡ some is) where
+  pub seek-listing : listed (seek path (going 0) is) ≡ listing path is
+  unfolding listing searched
+  seek-listing =
+      let z : 0 + stopping path is .compared ≡ stopping path is .compared = omega arith in
+      seek-stops path 0 is ∙ rw (z, early-stop path is (images-rise v is (maxDepth, valid) e)) refl
+
+-- ## The list
 
 -- what a list of images says of a path, through a member that must be there
-pub image-in-must : (path k : Bytes) (form : Json → Option (List Image)) (v : Json) → must k (imageIn path form) v ≡ imageIn path (must k form) v
-unfolding must imageIn bind
-image-in-must path k form v = go (field k v)
+pub listing-in-must : (path k : Bytes) (form : Json → Option (List Image)) (v : Json) → must k (listingIn path form) v ≡ listingIn path (must k form) v
+unfolding must listingIn bind
+listing-in-must path k form v = go (field k v)
   where
-    go : (o : Option Json) → (o >>= imageIn path form) ≡ ((o >>= form) >>= λ is. some (listedImage path is))
+    go : (o : Option Json) → (o >>= listingIn path form) ≡ ((o >>= form) >>= λ is. some (listing path is))
     go none = refl
     go (some w) = refl
 
@@ -138,73 +190,71 @@ images-by v = go (members v)
 
 -- ## One pass over the images
 
-module _ (all : ImagesAt) (o : Option Found) (e : viewImages all ≡ some o) (i : Found) where
-  before-is : (l : Bool) → all .listed ≡ l → o ≡ keep l (record { length = all .length; digest = viewId (all .digest) })
-  unfolding viewImages
-  before-is l q = sym (kept-is (all .ok) _ e .1) ∙ rw q
+module _ (s path : Bytes) (search : Search) (n i : ℕ) (x : ImageAt) where
+  pub still-over : search .over ≡ true → viewSearch search ≡ withImage path (viewSearch search) (imageAs s (raw (drop i s)) x)
+  unfolding viewSearch
+  still-over o = sym (with-over path (viewSearch search) (imageAs s (raw (drop i s)) x) o)
 
-  pub found-before : all .listed ≡ true → (asked : Bool) → viewImages all ≡ some (withImage o i asked)
-  unfolding withImage keep
-  found-before q asked = e ∙ rw (before-is true q) refl
+  -- the n-th name is compared
+  pub compared-now : search .over ≡ false → n ≡ search .compared + 1 → (r order : Order) → r ≡ orderOf (raw (drop i s)) path → r ≡ order
+      → record { over = not (isSmaller order); compared = n; image = keep (isEqual order) (described s x) } ≡ withImage path (viewSearch search) (imageAs s (raw (drop i s)) x)
+  unfolding viewSearch comparing imageAs described
+  compared-now o e r order w q =
+      rw (order-less (raw (drop i s)) path r order w q, order-same (raw (drop i s)) path r order w q ∙ same-sym (raw (drop i s)) path, e)
+      (sym (with-next path (viewSearch search) (imageAs s (raw (drop i s)) x) o))
 
-  pub not-asked : all .listed ≡ false → viewImages all ≡ some (withImage o i false)
-  unfolding withImage keep
-  not-asked q = e ∙ rw (before-is false q) refl
-
-  pub found-now : all .listed ≡ false → some (some i) ≡ some (withImage o i true)
-  unfolding withImage keep
-  found-now q = rw (before-is false q) refl
-
--- n images are read, `all` is what they say of the path, and the members from m on decide the whole
-pub record Pass (s path : Bytes) (at : ℕ) (all : ImagesAt) (n : ℕ) (m : Member) : Type 0 where
+-- n images are read, the search among them says `search`, and the members from m on decide the whole
+pub record Pass (s path : Bytes) (at : ℕ) (search : Search) (n : ℕ) (m : Member) : Type 0 where
   pub few : n ≤ maxTargets
   pub before : List Image
-  pub is : viewImages all ≡ some (listedImage path before)
+  pub is : viewSearch search ≡ seek path (going 0) before
+  -- while it is not over, all names were compared
+  pub all : search .over ≡ false → search .compared ≡ n
   pub walk : (v : Json) → Stands s at v → MembersWalk image 0 maxTargets s m n before (eachMember 0 maxTargets image v)
 
-module _ (s path : Bytes) (at : ℕ) (all : ImagesAt) where
-  pub pass-first : viewImages all ≡ some none → (m : Member) → FirstMember s at m → Pass s path at all 0 m
-  unfolding listedImage imageOf bind
-  pass-first e m w = record { few = omega arith; before = []; is = e; walk = λ v h. members-first image 0 maxTargets s m w v h }
+module _ (s path : Bytes) (at : ℕ) (search : Search) where
+  pub pass-first : viewSearch search ≡ going 0 → (m : Member) → FirstMember s at m → Pass s path at search 0 m
+  unfolding seek viewSearch going
+  pass-first e m w =
+      record { few = omega arith; before = []; is = e; all = λ o. ap (λ (r : Sought). r .compared) e; walk = λ v h. members-first image 0 maxTargets s m w v h }
 
-  module _ (n : ℕ) (m : Member) (w : Pass s path at all n m) where
-    pub pass-over : (e : ℕ) → m ≡ member.End e → Takes s at (imageIn path images) (viewImages all)
-    unfolding imageIn bind
+  module _ (n : ℕ) (m : Member) (w : Pass s path at search n m) where
+    pub pass-over : (e : ℕ) → m ≡ member.End e → Takes s at (listingIn path images) (some (listed (viewSearch search)))
+    unfolding listingIn bind
     pass-over j q v h =
-        let e : some (w .before) ≡ eachMember 0 maxTargets image v = members-over image 0 maxTargets s m n (w .before) _ (w .walk v h) j q (omega arith) (w .few) in
-        rw (images-by v, ← e) (w .is)
+        let e : images v ≡ some (w .before) = images-by v ∙ sym (members-over image 0 maxTargets s m n (w .before) _ (w .walk v h) j q (omega arith) (w .few)) in
+        rw e (ap (λ (r : Sought). some (listed r)) (w .is) ∙ ap some (seek-listing path v (h .valid) (w .before) e))
 
     module _ (r : ImagesAt) where
-      broken : viewImages r ≡ none → ((v : Json) → Stands s at v → none ≡ eachMember 0 maxTargets image v) → Takes s at (imageIn path images) (viewImages r)
-      unfolding imageIn bind
+      broken : viewImages r ≡ none → ((v : Json) → Stands s at v → none ≡ eachMember 0 maxTargets image v) → Takes s at (listingIn path images) (viewImages r)
+      unfolding listingIn bind
       broken z e v h = rw (images-by v, ← e v h) z
 
-      pub pass-none : viewImages r ≡ none → m ≡ member.NoObject → Takes s at (imageIn path images) (viewImages r)
+      pub pass-none : viewImages r ≡ none → m ≡ member.NoObject → Takes s at (listingIn path images) (viewImages r)
       pass-none z q = broken z (λ v h. members-none image 0 maxTargets s m n (w .before) _ (w .walk v h) q)
 
-      -- the name is read at i, the value stands at j
-      module _ (i j : ℕ) (q : m ≡ member.At i j) where
-        pub pass-full : viewImages r ≡ none → maxTargets ≤ n → Takes s at (imageIn path images) (viewImages r)
-        pass-full z l = broken z (λ v h. members-full image 0 maxTargets s m n (w .before) _ (w .walk v h) i j q l)
+    -- the name is read at i, the value stands at j
+    module _ (i j : ℕ) (q : m ≡ member.At i j) where
+      pub pass-full : (r : ImagesAt) → viewImages r ≡ none → maxTargets ≤ n → Takes s at (listingIn path images) (viewImages r)
+      pass-full r z l = broken r z (λ v h. members-full image 0 maxTargets s m n (w .before) _ (w .walk v h) i j q l)
 
-        module _ (x : ImageAt) (t : ReadsNamed s i j x) where
-          pub pass-broken : viewImages r ≡ none → x .ok ≡ false → Takes s at (imageIn path images) (viewImages r)
-          unfolding viewImage
-          pass-broken z o =
-              broken z
-              (λ v h. members-broken image 0 maxTargets s m n (w .before) _ (w .walk v h) i j q (λ u k. sym (cut _ _ o) ∙ t .means u k))
+      module _ (x : ImageAt) (t : ReadsNamed s i j x) where
+        pub pass-broken : (r : ImagesAt) → viewImages r ≡ none → x .ok ≡ false → Takes s at (listingIn path images) (viewImages r)
+        unfolding viewImage
+        pass-broken r z o =
+            broken r z
+            (λ v h. members-broken image 0 maxTargets s m n (w .before) _ (w .walk v h) i j q (λ u k. sym (cut _ _ o) ∙ t .means u k))
 
-          pub pass-next : x .ok ≡ true → n < maxTargets → (asked : Bool) → asked ≡ same (raw (drop i s)) path → OneMore s all x asked r
-              → (m′ : Member) → NextMember s j m′ → Pass s path at r (n + 1) m′
-          unfolding viewImage described
-          pass-next o l asked a e m′ y =
-              let new : Image = record { path = raw (drop i s); length = x .length; digest = undo (raw (drop (x .digest) s)) } in
-              record {
-                few = omega arith;
-                before = w .before ++ (new ∷ []);
-                is =
-                    e (listedImage path (w .before)) (w .is) (t .digits o)
-                    ∙ ap (λ (b : Bool). some (withImage (listedImage path (w .before)) (theFound new) b)) (a ∙ same-sym (raw (drop i s)) path)
-                    ∙ ap some (sym (listed-last path (w .before) new));
-                walk = λ v h. members-next image 0 maxTargets s m n (w .before) _ (w .walk v h) i j q new (λ u k. sym (held _ _ o) ∙ t .means u k) m′ y;
-              }
+        pub pass-next : x .ok ≡ true → n < maxTargets → (r : Search) → OneMore s path search (n + 1) i x r
+            → (m′ : Member) → NextMember s j m′ → Pass s path at r (n + 1) m′
+        unfolding viewImage viewSearch
+        pass-next o l r e m′ y =
+            let new = imageAs s (raw (drop i s)) x in
+            let moved = e (λ k. ap (λ (c : ℕ). c + 1) (sym (w .all k))) (t .digits o) in
+            record {
+              few = omega arith;
+              before = w .before ++ (new ∷ []);
+              is = moved ∙ ap (λ (x : Sought). withImage path x new) (w .is) ∙ sym (seek-last path (going 0) (w .before) new);
+              all = λ k. ap (λ (x : Sought). x .compared) moved ∙ with-all path (viewSearch search) new n (w .all) (sym (ap (λ (x : Sought). x .over) moved) ∙ k);
+              walk = λ v h. members-next image 0 maxTargets s m n (w .before) _ (w .walk v h) i j q new (λ u k. sym (held _ _ o) ∙ t .means u k) m′ y;
+            }

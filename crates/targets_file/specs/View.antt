@@ -1,7 +1,7 @@
 -- What the answers stand for. Of a targets file its version, its date and the one image of a path are looked at: the others are only
 -- read for their form.
 use mathlib.Core.Path.{_≡_}
-use mathlib.Core.Bool.{true}
+use mathlib.Core.Bool.{Bool, true}
 use mathlib.Core.Option.{Option, some}
 use mathlib.Core.List.{List}
 use Prim.Native.Nat.{ℕ}
@@ -18,10 +18,12 @@ use Rattle.rules.specs.Take.{_>>=_, must}
 use Rattle.rules.specs.Records.{Image, File, Read}
 use Rattle.rules.specs.Forms.{sha256, image}
 use Rattle.rules.specs.Conditions.{imageOf}
+use Rattle.rules.specs.Search.{paths, compared}
 use Rattle.rules.specs.Asked.{Found}
 use Rattle.records.specs.View.{viewId, viewEntries}
 use Rattle.envelope.specs.Open.{viewRead}
 use Rattle.targets_file.specs.declared.ImageAt.{ImageAt}
+use Rattle.targets_file.specs.declared.Search.{Search}
 use Rattle.targets_file.specs.declared.ImagesAt.{ImagesAt}
 use Rattle.targets_file.specs.declared.TargetsRead.{TargetsRead}
 
@@ -37,8 +39,12 @@ description v =
 unfoldable pub described : Bytes → ImageAt → Found
 described s r = record { length = r .length; digest = undo (raw (drop (r .digest) s)) }
 
+-- the same under its name
+unfoldable pub imageAs : Bytes → Bytes → ImageAt → Image
+imageAs s path r = record { path = path; length = r .length; digest = undo (raw (drop (r .digest) s)) }
+
 unfoldable pub viewImage : Bytes → Bytes → ImageAt → Option Image
-viewImage s path r = keep (r .ok) (record { path = path; length = r .length; digest = undo (raw (drop (r .digest) s)) })
+viewImage s path r = keep (r .ok) (imageAs s path r)
 
 -- What a reader promises of the image at p: what it says, where its digits stand and where it ends.
 pub record ReadsImage (s : Bytes) (p : ℕ) (r : ImageAt) : Type 0 where
@@ -52,33 +58,52 @@ pub record ReadsNamed (s : Bytes) (i p : ℕ) (r : ImageAt) : Type 0 where
   pub digits : r .ok ≡ true → isHex digestSize (raw (drop (r .digest) s)) ≡ true
   pub end : KnownEnd s p (r .end)
 
--- the length and digest of the image of that path, where it is listed
-unfoldable pub listedImage : Bytes → List Image → Option Found
-listedImage path is = imageOf path is >>= λ i. some (record { length = i .length; digest = i .digest })
+-- ## What a list of images says of a path
 
--- what a form of a list of images says of that path
-unfoldable pub imageIn : Bytes → (Json → Option (List Image)) → Json → Option (Option Found)
-imageIn path form v = form v >>= λ is. some (listedImage path is)
+pub record Listing : Type 0 where
+  pub image : Option Found
+  pub compared : ℕ
 
-unfoldable pub viewImages : ImagesAt → Option (Option Found)
-viewImages r = keep (r .ok) (keep (r .listed) (record { length = r .length; digest = viewId (r .digest) }))
+unfoldable pub foundOf : Option Image → Option Found
+foundOf o = o >>= λ i. some (record { length = i .length; digest = i .digest })
+
+-- the length and digest of its image, where it is listed, and the number of names compared
+unfoldable pub listing : Bytes → List Image → Listing
+listing path is = record { image = foundOf (imageOf path is); compared = compared path (paths is) }
+
+-- the same of a form of such a list
+unfoldable pub listingIn : Bytes → (Json → Option (List Image)) → Json → Option Listing
+listingIn path form v = form v >>= λ is. some (listing path is)
+
+-- what the search says so far
+pub record Sought : Type 0 where
+  pub over : Bool
+  pub compared : ℕ
+  pub image : Option Found
+
+unfoldable pub viewSearch : Search → Sought
+viewSearch r =
+    record { over = r .over; compared = r .compared; image = keep (r .listed) (record { length = r .length; digest = viewId (r .digest) }) }
+
+-- and what it says in the end
+unfoldable pub listed : Sought → Listing
+listed r = record { image = r .image; compared = r .compared }
+
+unfoldable pub viewImages : ImagesAt → Option Listing
+viewImages r = keep (r .ok) (listed (viewSearch (r .search)))
 
 -- ## The file
 
 pub record Seen : Type 0 where
   pub version : ℕ
   pub expires : ℤ
-  pub image : Option Found
+  pub listing : Listing
 
 unfoldable pub seen : Bytes → File (List Image) → Seen
-seen path f = record { version = f .version; expires = f .expires; image = listedImage path (f .body) }
+seen path f = record { version = f .version; expires = f .expires; listing = listing path (f .body) }
 
 unfoldable pub viewTargetsRead : TargetsRead → Option (Read Seen)
 viewTargetsRead r =
     viewRead (r .answer)
-    (record {
-      version = r .version;
-      expires = r .expires .seconds;
-      image = keep (r .listed) (record { length = r .length; digest = viewId (r .digest) });
-    })
+    (record { version = r .version; expires = r .expires .seconds; listing = listed (viewSearch (r .search)) })
     (viewEntries (r .entries))

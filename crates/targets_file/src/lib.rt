@@ -1,4 +1,5 @@
-// A targets file, read (01, refusals 1 to 4), and the image of a path in it: one pass over its images does both.
+// A targets file, read (01, refusals 1 to 4), and the image of a path in it: one pass over its images does both. The search for the path
+// stops at the first name that is not smaller (02, A2).
 ghost use mathlib.Core.Path.{_≡_};
 ghost use mathlib.Core.Bool.{true, false};
 ghost use mathlib.Core.Option.{none, some};
@@ -11,12 +12,13 @@ ghost use Rattle.forms.specs.View.{undoneAt, HexAt};
 ghost use Rattle.forms.specs.Member.{TakesMust};
 ghost use Rattle.targets_file.specs.Plain.{PlainLength};
 ghost use Rattle.targets_file.specs.Pass.{OneMore};
-ghost use Rattle.targets_file.specs.View.{ReadsImage, ReadsNamed, imageIn, viewImages, seen, viewTargetsRead};
+ghost use Rattle.targets_file.specs.View.{ReadsImage, ReadsNamed, listingIn, viewSearch, viewImages, seen, viewTargetsRead};
 use date::Time;
 use json::Skip;
 use lookup::Found;
 use lookup::Member;
 use lookup::Number;
+use lookup::Order;
 use records::Entries;
 use records::Id;
 
@@ -155,82 +157,83 @@ fn image_at(s: &[u8], i: usize, at: usize) -> ImageAt
     walked_image(s, at)
 }
 
-// ---- "targets"
+// ---- The search for a path
 
-// Whether all images have their form, the one of the path asked for, and where they end.
-pub struct ImagesAt {
-    pub ok: bool,
+// What the search says so far: whether it is over, how many names it compared, and the image that it found.
+pub struct Search {
+    pub over: bool,
+    pub compared: usize,
     pub listed: bool,
     pub length: u64,
     pub digest: Id,
+}
+
+// The path was not among the names compared.
+fn not_found(over: bool, compared: usize) -> Search
+    ensures { λ r. ⌜ viewSearch r ≡ record { over = over; compared = compared; image = none } ⌝ }
+{
+    Search {
+        over,
+        compared,
+        listed: false,
+        length: 0,
+        digest: Id { bytes: [0u8; 32] },
+    }
+}
+
+// One image more, the n-th, whose name is read at `i`. Names rise: the first that is not smaller than the path ends the search.
+fn with_image(s: &[u8], search: Search, n: usize, i: usize, image: ImageAt, path: &[u8]) -> Search
+    ensures { λ r. ⌜ OneMore (now (s .entry)) (now (path .entry)) search n i image r ⌝ }
+{
+    if search.over {
+        return search;
+    }
+    match lookup::text_order(s, i, path) {
+        Order::Smaller => {
+            return not_found(false, n);
+        }
+        Order::Greater => {
+            return not_found(true, n);
+        }
+        Order::Equal => {
+            let undone = forms::id_in(s, image.digest);
+            let digest = undone.id;
+            return Search {
+                over: true,
+                compared: n,
+                listed: true,
+                length: image.length,
+                digest,
+            };
+        }
+    }
+}
+
+// ---- "targets"
+
+// Whether all images have their form, what the search among them says, and where they end.
+pub struct ImagesAt {
+    pub ok: bool,
+    pub search: Search,
     pub end: Found,
 }
 
 fn no_images() -> ImagesAt
     ensures { λ r. ⌜ (viewImages r ≡ none) × (r .end ≡ Nothing) ⌝ }
 {
+    let search = not_found(true, 0);
     ImagesAt {
         ok: false,
-        listed: false,
-        length: 0,
-        digest: Id { bytes: [0u8; 32] },
+        search,
         end: Found::Nothing,
     }
 }
 
-// Before the first image is read: the path is not listed.
-fn not_listed() -> ImagesAt
-    ensures { λ r. ⌜ viewImages r ≡ some none ⌝ }
-{
-    ImagesAt {
-        ok: true,
-        listed: false,
-        length: 0,
-        digest: Id { bytes: [0u8; 32] },
-        end: Found::Nothing,
-    }
-}
-
-// After the last image: all of them end at `e`.
-fn ended(all: ImagesAt, e: usize) -> ImagesAt
-    ensures { λ r. ⌜ (viewImages r ≡ viewImages all) × (r .end ≡ At e) ⌝ }
-{
-    let digest = all.digest;
-    ImagesAt {
-        ok: all.ok,
-        listed: all.listed,
-        length: all.length,
-        digest,
-        end: Found::At(e),
-    }
-}
-
-// One image more, `asked` where its name is the path asked for: the first such image is kept.
-fn with_image(s: &[u8], all: ImagesAt, image: ImageAt, asked: bool) -> ImagesAt
-    ensures { λ r. ⌜ OneMore (now (s .entry)) all image asked r ⌝ }
-{
-    if all.listed {
-        return all;
-    }
-    if !asked {
-        return all;
-    }
-    let undone = forms::id_in(s, image.digest);
-    let digest = undone.id;
-    ImagesAt {
-        ok: true,
-        listed: true,
-        length: image.length,
-        digest,
-        end: Found::Nothing,
-    }
-}
-
-// 0 to 256 images.
+// 0 to 256 images. Each is read for its form, also after the search is over.
 fn each_image(s: &[u8], at: usize, path: &[u8]) -> ImagesAt
-    ensures { λ r. ⌜ Takes (now (s .entry)) at (imageIn (now (path .entry)) imagesForm) (viewImages r) × KnownEnd (now (s .entry)) at (r .end) ⌝ }
+    ensures { λ r. ⌜ Takes (now (s .entry)) at (listingIn (now (path .entry)) imagesForm) (viewImages r) × KnownEnd (now (s .entry)) at (r .end) ⌝ }
 {
-    let mut all = not_listed();
+    let mut search = not_found(false, 0);
     let mut n: usize = 0;
     let mut m = lookup::first_member(s, at);
     loop {
@@ -243,9 +246,8 @@ fn each_image(s: &[u8], at: usize, path: &[u8]) -> ImagesAt
                 if !image.ok {
                     return no_images();
                 }
-                let asked = lookup::text_is(s, i, path);
-                all = with_image(s, all, image, asked);
                 n += 1;
+                search = with_image(s, search, n, i, image, path);
                 let end = image.end;
                 m = lookup::next_member_by(s, v, end);
             }
@@ -253,14 +255,18 @@ fn each_image(s: &[u8], at: usize, path: &[u8]) -> ImagesAt
                 return no_images();
             }
             Member::End(e) => {
-                return ended(all, e);
+                return ImagesAt {
+                    ok: true,
+                    search,
+                    end: Found::At(e),
+                };
             }
         }
     }
 }
 
 fn images_field(s: &[u8], found: Found, path: &[u8]) -> ImagesAt
-    ensures { λ r. ⌜ TakesMust (now (s .entry)) found (imageIn (now (path .entry)) imagesForm) (viewImages r) × FoundEnd (now (s .entry)) found (r .end) ⌝ }
+    ensures { λ r. ⌜ TakesMust (now (s .entry)) found (listingIn (now (path .entry)) imagesForm) (viewImages r) × FoundEnd (now (s .entry)) found (r .end) ⌝ }
 {
     match found {
         Found::Nothing => {
@@ -279,22 +285,19 @@ pub struct TargetsRead {
     pub answer: u8,
     pub version: u64,
     pub expires: Time,
-    pub listed: bool,
-    pub length: u64,
-    pub digest: Id,
+    pub search: Search,
     pub entries: Entries,
 }
 
 fn refused(answer: u8) -> TargetsRead
     ensures { λ r. ⌜ r .answer ≡ answer ⌝ }
 {
+    let search = not_found(true, 0);
     TargetsRead {
         answer,
         version: 0,
         expires: Time { seconds: 0 },
-        listed: false,
-        length: 0,
-        digest: Id { bytes: [0u8; 32] },
+        search,
         entries: envelope::no_ids(),
     }
 }
@@ -321,15 +324,13 @@ pub fn read_targets(file: &[u8], path: &[u8]) -> TargetsRead
         return refused(envelope::OTHER_SPEC);
     }
     let expires = header.expires;
-    let digest = body.digest;
+    let search = body.search;
     let entries = opened.entries;
     TargetsRead {
         answer: 0,
         version: header.version,
         expires,
-        listed: body.listed,
-        length: body.length,
-        digest,
+        search,
         entries,
     }
 }

@@ -18,7 +18,7 @@ pub data Made (self : State) : Call → ℕ → State → Type 0 where
   -- `new_cycle`, `root`, `timestamp`, `snapshot`, `targets`
   stepping : {c : Call} {n : ℕ} {after : State} → Steps self c n after → Made self c n after
   -- "find, key and any other call that returns none pass on the one they were given"
-  finding : {q : Query} {n : ℕ} {image : Found} → FindsImage self q n image → Made self (find q) n self
+  finding : {q : Query} {n : ℕ} {image : Found} {compared : ℕ} → FindsImage self q n image compared → Made self (find q) n self
   asking : {k : Bytes} {n : ℕ} {public : Bytes} → GivesKey self k n public → Made self (askKey k) n self
   telling : {r : Versions} → Tells (view self) r → Made self askState 0 self
 

@@ -7,7 +7,7 @@ use Rattle.base.specs.Bytes.{Bytes}
 use Rattle.rules.specs.Limits.{keySize}
 use Rattle.rules.specs.State.{Query, Call, find, askKey}
 use Rattle.rules.specs.Steps.{answer, refuses, Stepped}
-use Rattle.rules.specs.Asked.{Found, nothingFound, found, publicKey}
+use Rattle.rules.specs.Asked.{Found, nothingFound, found, comparedBy, publicKey}
 use Rattle.answers.specs.Number.{numberOf, highest}
 use Rattle.answers.specs.declared.Answer.{Answer}
 use Rattle.records.specs.View.{viewId}
@@ -36,13 +36,15 @@ pub record Accepts (trusted : state.State) (r : Step) : Type 0 where
 
 -- ## Find: a call that returns no state
 
-pub record FindsImage (self : State) (q : Query) (n : ℕ) (image : Found) : Type 0 where
+pub record FindsImage (self : State) (q : Query) (n : ℕ) (image : Found) (compared : ℕ) : Type 0 where
   pub answered : n ≡ answer (view self) (find q)
   pub gives : image ≡ found (view self) q
+  pub counts : compared ≡ comparedBy (view self) q
 
-pub record NoImage (n : ℕ) (r : Image) : Type 0 where
+pub record NoImage (n compared : ℕ) (r : Image) : Type 0 where
   pub answer : numberOf (r .answer) ≡ min n highest
   pub zeros : viewImage r ≡ nothingFound
+  pub counts : r .compared ≡ compared
 
 -- ## Key
 

@@ -9,6 +9,6 @@ use Rattle.tuf.specs.declared.Image.{Image}
 unfoldable pub view : State → rules.State
 view s = state.view (s .trusted)
 
--- what find gives besides its answer
+-- what find gives besides its answer and the number of names compared
 unfoldable pub viewImage : Image → Found
 viewImage r = record { length = r .length; digest = viewId (r .digest) }

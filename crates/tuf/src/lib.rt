@@ -34,12 +34,13 @@ pub struct Step {
     pub state: State,
 }
 
-// What find gives.
+// What find gives: the image's length and digest, and how many names it compared.
 #[repr(C)]
 pub struct Image {
     pub answer: Answer,
     pub length: u64,
     pub digest: Id,
+    pub compared: usize,
 }
 
 // What key gives.
@@ -168,24 +169,29 @@ impl State {
         accepted(self.trusted.with_targets(new))
     }
 
-    // "Find (1 to 8, 15)": "Success gives length and sha256; a refusal gives zeros"
+    // "Find (1 to 8, 15)": "Success gives length and sha256; a refusal gives zeros". A2: the number of names compared is given with 15 too.
     pub fn find(self, file: &[u8], path: &[u8]) -> Image
-        ensures { λ r. ⌜ FindsImage self (record { file = now (file .entry); path = now (path .entry) }) (numberOf (r .answer)) (viewImage r) ⌝ }
+        ensures { λ r. ⌜ FindsImage self (record { file = now (file .entry); path = now (path .entry) }) (numberOf (r .answer)) (viewImage r) (r .compared) ⌝ }
     {
         let read = targets_file::read_targets(file, path);
         if read.answer != 0 {
-            return no_image(read.answer);
+            return no_image(read.answer, 0);
         }
         let digest = sha256::digest(file);
-        let answer = judge::judge_find(self.trusted, &digest, path, read.listed);
-        if answer != 0 {
-            return no_image(answer);
+        let search = read.search;
+        let answer = judge::judge_find(self.trusted, &digest, path, search.listed);
+        if answer == 15 {
+            return no_image(answer, search.compared);
         }
-        let listed = read.digest;
+        if answer != 0 {
+            return no_image(answer, 0);
+        }
+        let listed = search.digest;
         Image {
             answer: Answer::Accepted,
-            length: read.length,
+            length: search.length,
             digest: listed,
+            compared: search.compared,
         }
     }
 
@@ -299,14 +305,15 @@ fn accepted(trusted: state::State) -> Step
     }
 }
 
-fn no_image(number: u8) -> Image
-    ensures { λ r. ⌜ NoImage number r ⌝ }
+fn no_image(number: u8, compared: usize) -> Image
+    ensures { λ r. ⌜ NoImage number compared r ⌝ }
 {
     let answer = answers::numbered(number);
     Image {
         answer,
         length: 0,
         digest: Id { bytes: [0u8; 32] },
+        compared,
     }
 }
 

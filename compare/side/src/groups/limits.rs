@@ -4,6 +4,7 @@
 use std::collections::BTreeMap;
 
 use super::Recorder;
+use super::finds::{found, not_listed, refused};
 use super::forms::{self, Kind, Stage, valid};
 use crate::calls::Call;
 use crate::compare::{Cases, Group};
@@ -84,6 +85,14 @@ fn tried(script: &mut Recorder, kind: Kind, file: &Tree, answer: u8) {
     }
 }
 
+/// What find says of `image` in the acceptable targets file, where it is the second of two.
+fn image_found(answer: u8, length: u64) -> String {
+    match answer {
+        ACCEPTED => found(length, &digest(b"image"), 2),
+        _ => refused(answer),
+    }
+}
+
 /// "32,768 bytes may pass, 32,769 is 1."
 fn lengths(script: &mut Recorder) {
     for kind in KINDS {
@@ -105,7 +114,7 @@ fn lengths(script: &mut Recorder) {
                 Stage::new(kind).play_bytes(script, bytes.clone(), 2, Some(answer));
                 if kind == Kind::Targets {
                     script.open(Call::Cycle(0));
-                    script.stated(forms::find(&bytes, "image"), format!("find {answer}"));
+                    script.stated(forms::find(&bytes, "image"), image_found(answer, u32::MAX.into()));
                 }
             }
         }
@@ -273,12 +282,11 @@ fn counts_of_names(script: &mut Recorder) {
         tried(script, Kind::Targets, &file, answer);
         script.open(Call::Cycle(0));
         for number in [0, 1, 127, 254, 255, 256, 257] {
-            let listed = answer == ACCEPTED && number < count;
             let path = format!("{number:03}");
-            let answer = match (answer, listed) {
-                (BROKEN, _) => "find 3".to_string(),
-                (_, true) => format!("find 0 {}", number + 1),
-                (_, false) => "find 15 0".to_string(),
+            let answer = match answer {
+                ACCEPTED if number < count => found(number as u64 + 1, &digest(b"image"), number + 1),
+                ACCEPTED => not_listed(count),
+                _ => refused(answer),
             };
             script.stated(forms::find(&file.written(), &path), answer);
         }
@@ -325,12 +333,13 @@ fn bytes_of_names(script: &mut Recorder) {
             let file = targets_of([name.clone()]);
             tried(script, Kind::Targets, &file, answer);
             script.open(Call::Cycle(0));
-            let found = if answer == ACCEPTED { "find 0 1" } else { "find 3 0" };
-            script.stated(forms::find(&file.written(), &name), found);
+            let said = |accepted: String| if answer == ACCEPTED { accepted } else { refused(answer) };
+            let call = forms::find(&file.written(), &name);
+            script.stated(call, said(found(1, &digest(b"image"), 1)));
             let escaped = super::names::escaped(&name);
             if escaped != name {
-                let found = if answer == ACCEPTED { "find 15 0" } else { "find 3 0" };
-                script.stated(forms::find(&file.written(), &escaped), found);
+                let call = forms::find(&file.written(), &escaped);
+                script.stated(call, said(not_listed(1)));
             }
         }
     }
@@ -411,12 +420,7 @@ fn numbers(script: &mut Recorder) {
         *file.member(&["signed", "targets", "image", "length"]) = number(length);
         tried(script, Kind::Targets, &file, answer);
         script.open(Call::Cycle(0));
-        let found = if answer == ACCEPTED {
-            format!("find 0 {length} ")
-        } else {
-            "find 3 0 ".to_string()
-        };
-        script.stated(forms::find(&file.written(), "image"), found.trim_end());
+        script.stated(forms::find(&file.written(), "image"), image_found(answer, length));
     }
 }
 

@@ -3,6 +3,7 @@
 pub mod damage;
 mod dates;
 mod digests;
+mod finds;
 mod forms;
 pub mod histories;
 mod images;
@@ -13,8 +14,9 @@ mod lines;
 mod looks;
 mod mutants;
 mod named;
-pub(crate) mod names;
+pub mod names;
 mod published;
+mod search;
 mod signed;
 mod text;
 mod texts;
@@ -55,6 +57,7 @@ pub fn all() -> Vec<Group> {
         forms::groups(),
         limits::groups(),
         keyids::groups(),
+        search::groups(),
         named::groups(),
         published::groups(),
         signed::groups(),

@@ -3,6 +3,7 @@
 
 use std::collections::BTreeMap;
 
+use super::finds::{found, not_listed, refused};
 use super::{Recorder, all_of};
 use crate::calls::Call;
 use crate::compare::{Cases, Group};
@@ -146,17 +147,17 @@ impl Shelf {
     }
 
     /// Finds a path in targets 7, or in that of another version.
-    fn find(&mut self, path: &[u8], answer: &str) {
+    fn find(&mut self, path: &[u8], answer: String) {
         self.find_in(7, path, answer);
     }
 
-    fn find_in(&mut self, version: u64, path: &[u8], answer: &str) {
+    fn find_in(&mut self, version: u64, path: &[u8], answer: String) {
         self.find_with(targets_file(version, LATER), path, answer);
     }
 
-    fn find_with(&mut self, file: Vec<u8>, path: &[u8], answer: &str) {
+    fn find_with(&mut self, file: Vec<u8>, path: &[u8], answer: String) {
         let path = path.to_vec();
-        self.script.stated(Call::Find { file, path }, format!("find {answer}"));
+        self.script.stated(Call::Find { file, path }, answer);
     }
 
     fn key(&mut self, key: usize, answer: &str) {
@@ -187,6 +188,11 @@ fn targets_signed_by(version: u64, expires: i64, keys: &[usize]) -> Vec<u8> {
     ]);
     let header = Header::new(version, expires);
     files::file(Targets { header, targets }.signed(), keys).written()
+}
+
+/// The answer to `image`, which stands behind `a"b\` in those files.
+fn image_found() -> String {
+    found(0, &image_digest(), 2)
 }
 
 fn image_digest() -> Digest {
@@ -269,11 +275,11 @@ fn expires_1000(shelf: &mut Shelf) {
         let targets = targets_file(7, expires("targets"));
         shelf.targets_with(targets.clone(), &[1], "0");
         shelf.cycle(999);
-        shelf.find_with(targets.clone(), b"image", "0 0");
+        shelf.find_with(targets.clone(), b"image", image_found());
         shelf.cycle(1000);
-        shelf.find_with(targets.clone(), b"image", "7 0");
+        shelf.find_with(targets.clone(), b"image", refused(7));
         shelf.cycle(999);
-        shelf.find_with(targets, b"image", "0 0");
+        shelf.find_with(targets, b"image", image_found());
     }
 }
 
@@ -303,11 +309,11 @@ fn empty_targets_list(shelf: &mut Shelf) {
     };
     let file = files::file(targets.signed(), &[7]).written();
     shelf.targets_with(file.clone(), &[1], "0");
-    shelf.find_with(file.clone(), b"image", "15 0");
-    shelf.find_with(file.clone(), b"", "15 0");
-    shelf.find_in(1, b"image", "8 0");
+    shelf.find_with(file.clone(), b"image", not_listed(0));
+    shelf.find_with(file.clone(), b"", not_listed(0));
+    shelf.find_in(1, b"image", refused(8));
     shelf.cycle(LATER);
-    shelf.find_with(file, b"image", "7 0");
+    shelf.find_with(file, b"image", refused(7));
 }
 
 fn thinly_signed_and_expired(shelf: &mut Shelf) {
@@ -450,8 +456,8 @@ fn blank_state(shelf: &mut Shelf) {
         shelf.snapshot_with(snapshot_file(1, LATER, &[("targets.json", 1)]), &[2], &five);
         shelf.targets(7, &six);
         shelf.targets_with(targets_file(7, LATER), &[], &five);
-        shelf.find(b"image", "6 0");
-        shelf.find_with(b"{}".to_vec(), b"image", "3 0");
+        shelf.find(b"image", refused(6));
+        shelf.find_with(b"{}".to_vec(), b"image", refused(3));
         shelf.key(1, "6");
         shelf.script.stated(Call::Key(b"?".to_vec()), "key 6");
         shelf.script.stated(Call::State, format!("state {blank} time={time}"));
@@ -478,7 +484,7 @@ fn new_histories_and_cycles(shelf: &mut Shelf) {
             .stated(Call::Cycle(time), format!("cycle 0 {held} time={time}"));
         shelf.script.stated(Call::State, format!("state {held} time={time}"));
     }
-    shelf.find(b"image", &format!("0 0 {}", paper::hex::written(&image_digest())));
+    shelf.find(b"image", image_found());
     shelf.install(
         &Root::new(9, LATER),
         &[1],
@@ -486,7 +492,7 @@ fn new_histories_and_cycles(shelf: &mut Shelf) {
         -5,
         "0 root=9 timestamp=- snapshot=- targets=- time=-5",
     );
-    shelf.find(b"image", "6 0");
+    shelf.find(b"image", refused(6));
     shelf.key(8, &format!("0 {}", public(8)));
     shelf.key(9, &format!("15 {}", "0".repeat(64)));
     let image = |length, sha256: Digest| Call::Image {
@@ -580,41 +586,41 @@ fn nothing_falls(shelf: &mut Shelf) {
 
 fn current_records(shelf: &mut Shelf) {
     shelf.complete();
-    shelf.find(b"image", "0 0");
-    shelf.find(b"a\"b\\", "0 4294967295");
-    for path in [
-        &b"a\\\"b\\\\"[..],
-        b"",
-        b"imag",
-        b"image\0",
-        b"Image",
-        b"\xff",
-        &[b'x'; 128],
-        &[b'x'; 129],
+    shelf.find(b"image", image_found());
+    shelf.find(b"a\"b\\", found(4_294_967_295, &image_digest(), 1));
+    for (path, compared) in [
+        (&b"a\\\"b\\\\"[..], 2),
+        (b"", 1),
+        (b"imag", 2),
+        (b"image\0", 2),
+        (b"Image", 1),
+        (b"\xff", 2),
+        (&[b'x'; 128], 2),
+        (&[b'x'; 129], 2),
     ] {
-        shelf.find(path, "15 0");
+        shelf.find(path, not_listed(compared));
     }
     shelf.timestamp(4, 5, "0");
-    shelf.find(b"image", "0 0");
+    shelf.find(b"image", image_found());
     shelf.timestamp(5, 6, "0");
-    shelf.find(b"image", "6 0");
+    shelf.find(b"image", refused(6));
     shelf.targets(7, "6");
     shelf.snapshot(6, &[("a", 9), ("targets.json", 8)], "0");
-    shelf.find(b"image", "6 0");
-    shelf.find_in(8, b"image", "6 0");
+    shelf.find(b"image", refused(6));
+    shelf.find_in(8, b"image", refused(6));
     shelf.targets(7, "11");
     shelf.targets(9, "11");
     shelf.targets(8, "0");
-    shelf.find(b"image", "8 0");
-    shelf.find_in(8, b"image", "0 0");
+    shelf.find(b"image", refused(8));
+    shelf.find_in(8, b"image", image_found());
     // Targets are current by their version alone.
     shelf.timestamp(6, 7, "0");
     shelf.snapshot(7, &[("a", 9), ("targets.json", 8)], "0");
-    shelf.find_in(8, b"image", "0 0");
+    shelf.find_in(8, b"image", image_found());
     // It is the whole file that is digested: with another entry, or another member beside the signed part, it is another one.
-    shelf.find_with(targets_signed_by(8, LATER, &[8]), b"image", "8 0");
-    shelf.find_with(targets_signed_by(8, LATER, &[7, 8]), b"image", "8 0");
-    shelf.find_with(with_more(targets_file(8, LATER)), b"image", "8 0");
+    shelf.find_with(targets_signed_by(8, LATER, &[8]), b"image", refused(8));
+    shelf.find_with(targets_signed_by(8, LATER, &[7, 8]), b"image", refused(8));
+    shelf.find_with(with_more(targets_file(8, LATER)), b"image", refused(8));
 }
 
 /// The same bytes, but for an unknown member that is put behind the signed part.

@@ -16,7 +16,7 @@ returns : tie.Need-returns
 unfolding viewImage tuf.viewImage
 returns c =
     let w = c .before .before .find .ensures in
-    record { answered = c .before .number .ensures ∙ w .answered; gives = w .gives }
+    record { answered = c .before .number .ensures ∙ w .answered; gives = w .gives; counts = w .counts }
 
 pub gronwythal-find-spec : {M : Type 1} → statement M
 gronwythal-find-spec = tie.close (tie.spec find-requires number-requires returns)

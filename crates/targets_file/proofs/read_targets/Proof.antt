@@ -8,8 +8,8 @@ use Rattle.rules.specs.Forms.{targets}
 use Rattle.envelope.specs.Header.{viewHeader}
 use Rattle.rules.specs.Reading.{noTable}
 use Rattle.envelope.proofs.RoleLaws.{role-refused, role-broken, role-headless, role-other, role-says}
-use Rattle.targets_file.specs.View.{imageIn, viewImages, viewTargetsRead}
-use Rattle.targets_file.proofs.ImageLaws.{image-in-must}
+use Rattle.targets_file.specs.View.{listingIn, viewImages, viewTargetsRead}
+use Rattle.targets_file.proofs.ImageLaws.{listing-in-must}
 use Rattle.targets_file.proofs.BodyLaws.{asSeen, seen-in}
 use Rattle.targets_file.proofs.read_targets.Statement.{statement}
 use Rattle.targets_file.proofs.read_targets.Tie as tie
@@ -24,7 +24,7 @@ returns : tie.Need-returns
 unfolding viewTargetsRead
 returns c =
     let a = c .before .before .before .before .before .before .args in
-    role-refused _ (imageIn (a .path .now) targets) noTable asSeen (a .file .now) (c .before .before .before .open-envelope .result) (c .before .before .before .open-envelope .ensures) _ _ _ (c .before .if1 .taken) (c .refused .ensures)
+    role-refused _ (listingIn (a .path .now) targets) noTable asSeen (a .file .now) (c .before .before .before .open-envelope .result) (c .before .before .before .open-envelope .ensures) _ _ _ (c .before .if1 .taken) (c .refused .ensures)
     ∙ ap some (sym (seen-in (a .path .now) (a .file .now)))
 
 slice-aggregate-find-member : tie.Need-slice-aggregate-find-member
@@ -43,7 +43,7 @@ returns-2 : tie.Need-returns-2
 unfolding viewTargetsRead viewImages targets
 returns-2 c =
     let a = c .before .before .before .before .before .before .before .before .before .before .before .args in
-    role-broken _ (imageIn (a .path .now) targets) noTable asSeen (a .file .now) (c .before .before .before .before .before .before .before .before .open-envelope .result) (c .before .before .before .before .before .before .before .before .open-envelope .ensures) _ _ _ (c .before .before .before .before .before .before .if1 .left) _ _ (λ v h. c .before .before .before .images-field .ensures .0 _ _ (c .before .before .before .before .find-member .ensures .means) v h ∙ image-in-must _ _ _ v) (not-true _ (c .before .if2 .taken)) (c .refused2 .ensures)
+    role-broken _ (listingIn (a .path .now) targets) noTable asSeen (a .file .now) (c .before .before .before .before .before .before .before .before .open-envelope .result) (c .before .before .before .before .before .before .before .before .open-envelope .ensures) _ _ _ (c .before .before .before .before .before .before .if1 .left) _ _ (λ v h. c .before .before .before .images-field .ensures .0 _ _ (c .before .before .before .before .find-member .ensures .means) v h ∙ listing-in-must _ _ _ v) (not-true _ (c .before .if2 .taken)) (c .refused2 .ensures)
     ∙ ap some (sym (seen-in (a .path .now) (a .file .now)))
 
 slice-aggregate-header-at : tie.Need-slice-aggregate-header-at
@@ -62,7 +62,7 @@ returns-3 : tie.Need-returns-3
 unfolding viewTargetsRead viewImages viewHeader targets
 returns-3 c =
     let a = c .before .before .before .before .before .before .before .before .before .before .before .before .before .before .before .before .args in
-    role-headless _ (imageIn (a .path .now) targets) noTable asSeen (a .file .now) (c .before .before .before .before .before .before .before .before .before .before .before .before .before .open-envelope .result) (c .before .before .before .before .before .before .before .before .before .before .before .before .before .open-envelope .ensures) _ _ _ (c .before .before .before .before .before .before .before .before .before .before .before .if1 .left) _ _ (λ v h. c .before .before .before .before .before .before .before .before .images-field .ensures .0 _ _ (c .before .before .before .before .before .before .before .before .before .find-member .ensures .means) v h ∙ image-in-must _ _ _ v)
+    role-headless _ (listingIn (a .path .now) targets) noTable asSeen (a .file .now) (c .before .before .before .before .before .before .before .before .before .before .before .before .before .open-envelope .result) (c .before .before .before .before .before .before .before .before .before .before .before .before .before .open-envelope .ensures) _ _ _ (c .before .before .before .before .before .before .before .before .before .before .before .if1 .left) _ _ (λ v h. c .before .before .before .before .before .before .before .before .images-field .ensures .0 _ _ (c .before .before .before .before .before .before .before .before .before .find-member .ensures .means) v h ∙ listing-in-must _ _ _ v)
     _ _ (c .before .before .before .header-at .ensures (c .before .before .before .before .extent-of .ensures _ (c .before .before .before .before .before .before .before .before .images-field .ensures .1))) (not-true _ (c .before .if3 .taken)) (c .refused3 .ensures)
     ∙ ap some (sym (seen-in (a .path .now) (a .file .now)))
 
@@ -73,7 +73,7 @@ returns-4 : tie.Need-returns-4
 unfolding viewTargetsRead viewImages viewHeader targets
 returns-4 c =
     let a = c .before .before .before .before .before .before .before .before .before .before .before .before .before .before .before .before .before .before .args in
-    role-other _ (imageIn (a .path .now) targets) noTable asSeen (a .file .now) (c .before .before .before .before .before .before .before .before .before .before .before .before .before .before .before .open-envelope .result) (c .before .before .before .before .before .before .before .before .before .before .before .before .before .before .before .open-envelope .ensures) _ _ _ (c .before .before .before .before .before .before .before .before .before .before .before .before .before .if1 .left) _ _ (λ v h. c .before .before .before .before .before .before .before .before .before .before .images-field .ensures .0 _ _ (c .before .before .before .before .before .before .before .before .before .before .before .find-member .ensures .means) v h ∙ image-in-must _ _ _ v)
+    role-other _ (listingIn (a .path .now) targets) noTable asSeen (a .file .now) (c .before .before .before .before .before .before .before .before .before .before .before .before .before .before .before .open-envelope .result) (c .before .before .before .before .before .before .before .before .before .before .before .before .before .before .before .open-envelope .ensures) _ _ _ (c .before .before .before .before .before .before .before .before .before .before .before .before .before .if1 .left) _ _ (λ v h. c .before .before .before .before .before .before .before .before .before .before .images-field .ensures .0 _ _ (c .before .before .before .before .before .before .before .before .before .before .before .find-member .ensures .means) v h ∙ listing-in-must _ _ _ v)
     _ _ (c .before .before .before .before .before .header-at .ensures (c .before .before .before .before .before .before .extent-of .ensures _ (c .before .before .before .before .before .before .before .before .before .before .images-field .ensures .1))) (not-false _ (c .before .before .before .before .before .before .before .before .if2 .left)) (not-false _ (c .before .before .before .if3 .left)) true (λ v h. refl) refl (not-true _ (c .before .if4 .taken)) (c .refused4 .ensures)
     ∙ ap some (sym (seen-in (a .path .now) (a .file .now)))
 
@@ -81,7 +81,7 @@ returns-5 : tie.Need-returns-5
 unfolding viewTargetsRead viewImages viewHeader asSeen targets
 returns-5 c =
     let a = c .before .before .before .before .before .before .before .before .before .before .before .before .before .before .before .before .before .before .before .before .args in
-    role-says _ (imageIn (a .path .now) targets) noTable asSeen (a .file .now) (c .before .before .before .before .before .before .before .before .before .before .before .before .before .before .before .before .before .open-envelope .result) (c .before .before .before .before .before .before .before .before .before .before .before .before .before .before .before .before .before .open-envelope .ensures) _ _ _ (c .before .before .before .before .before .before .before .before .before .before .before .before .before .before .before .if1 .left) _ _ (λ v h. c .before .before .before .before .before .before .before .before .before .before .before .before .images-field .ensures .0 _ _ (c .before .before .before .before .before .before .before .before .before .before .before .before .before .find-member .ensures .means) v h ∙ image-in-must _ _ _ v)
+    role-says _ (listingIn (a .path .now) targets) noTable asSeen (a .file .now) (c .before .before .before .before .before .before .before .before .before .before .before .before .before .before .before .before .before .open-envelope .result) (c .before .before .before .before .before .before .before .before .before .before .before .before .before .before .before .before .before .open-envelope .ensures) _ _ _ (c .before .before .before .before .before .before .before .before .before .before .before .before .before .before .before .if1 .left) _ _ (λ v h. c .before .before .before .before .before .before .before .before .before .before .before .before .images-field .ensures .0 _ _ (c .before .before .before .before .before .before .before .before .before .before .before .before .before .find-member .ensures .means) v h ∙ listing-in-must _ _ _ v)
     _ _ (c .before .before .before .before .before .before .before .header-at .ensures (c .before .before .before .before .before .before .before .before .extent-of .ensures _ (c .before .before .before .before .before .before .before .before .before .before .before .before .images-field .ensures .1))) (not-false _ (c .before .before .before .before .before .before .before .before .before .before .if2 .left)) (not-false _ (c .before .before .before .before .before .if3 .left)) true (λ v h. refl) refl (not-false _ (c .before .before .before .if4 .left)) refl (λ spec. refl) refl
     ∙ ap some (sym (seen-in (a .path .now) (a .file .now)))
 

@@ -13,7 +13,7 @@ numbered-requires c κs = search needs
 
 returns : tie.Need-returns
 unfolding viewImage nothingFound viewId window run byteAt
-returns c = record { answer = c .numbered .ensures; zeros = refl }
+returns c = record { answer = c .numbered .ensures; zeros = refl; counts = refl }
 
 pub no-image-spec : {M : Type 1} → statement M
 no-image-spec = tie.close (tie.spec numbered-requires returns)

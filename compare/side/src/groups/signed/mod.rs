@@ -5,6 +5,7 @@ mod office;
 
 use std::collections::{BTreeMap, BTreeSet};
 
+use super::finds::{found, not_listed, refused};
 use super::{Recorder, all_of};
 use crate::calls::Call;
 use crate::compare::{Cases, Group};
@@ -32,7 +33,7 @@ const ATTACKER: usize = 9;
 const ROOT_B_NEW: usize = 10;
 const KEYS: std::ops::RangeInclusive<usize> = ROOT_A..=ROOT_B_NEW;
 
-/// What the images are, by path.
+/// What the images are, by path, in the order of the paths.
 const IMAGES: &[(&str, &[u8])] = &[
     ("gate.img", b"Opens at sunrise, shuts at sunset."),
     ("gate.img!", b""),
@@ -274,24 +275,23 @@ impl Shelf {
         self.script.stated(call, format!("targets {answer}"));
     }
 
-    fn find(&mut self, file: &File, path: &str, answer: &str) {
+    fn find(&mut self, file: &File, path: &str, answer: String) {
         let call = Call::Find {
             file: file.bytes(),
             path: path.into(),
         };
-        self.script.stated(call, format!("find {answer}"));
+        self.script.stated(call, answer);
     }
 
-    /// A find that is refused gives zeros.
     fn find_refused(&mut self, file: &File, path: &str, number: u8) {
-        self.find(file, path, &format!("{number} 0 {}", hex::zeros(64)));
+        self.find(file, path, refused(number));
     }
 
     /// Finds every image, and compares it and others with what was found.
     fn find_all(&mut self, file: &File) {
-        for (path, content) in IMAGES {
+        for ((path, content), compared) in IMAGES.iter().zip(1..) {
             let (length, sha256) = (content.len() as u64, digest(content));
-            self.find(file, path, &format!("0 {length} {}", hex::written(&sha256)));
+            self.find(file, path, found(length, &sha256, compared));
             let mut fetched = |length: u64, sha256: Digest, answer: &str| {
                 let call = Call::Image {
                     found: (content.len() as u64, digest(content).to_vec()),
@@ -303,8 +303,9 @@ impl Shelf {
             fetched(length, digest(b"another image"), "8");
             fetched(length + 1, sha256, "8");
         }
-        self.find_refused(file, "gate", 15);
-        self.find_refused(file, r#"pump \"old\"\\1.img"#, 15);
+        // Before the first image, and between the last two: a backslash stands behind a quotation mark.
+        self.find(file, "gate", not_listed(1));
+        self.find(file, r#"pump \"old\"\\1.img"#, not_listed(4));
         self.find_refused(&file.damaged(), IMAGES[0].0, 8);
         // The same signed part, but the digest is that of the whole file.
         let unsigned = File {

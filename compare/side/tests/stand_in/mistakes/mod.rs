@@ -5,6 +5,7 @@ mod forms;
 mod keyids;
 mod lines;
 mod questions;
+mod search;
 mod steps;
 mod texts;
 
@@ -16,6 +17,7 @@ pub use lines::{error, line};
 pub fn answer(mistake: &str, script: &mut Script, call: &Call) -> Option<String> {
     texts::answer(mistake, call)
         .or_else(|| questions::answer(mistake, script, call))
+        .or_else(|| search::answer(mistake, script, call))
         .or_else(|| keyids::answer(mistake, script, call))
         .or_else(|| steps::answer(mistake, script, call))
         .or_else(|| forms::answer(mistake, script, call))

@@ -107,7 +107,6 @@ fn image(mistake: &str, script: &mut Script, found: &(u64, Vec<u8>), fetched: &(
 }
 
 fn find(mistake: &str, script: &mut Script, file: &[u8], path: &[u8]) -> Option<String> {
-    let refused = |number: u8| Some(format!("find {number} 0 {}", "0".repeat(64)));
     let other = match mistake {
         "find-with-escapes" => String::from_utf8_lossy(path)
             .replace("\\\"", "\"")
@@ -116,8 +115,8 @@ fn find(mistake: &str, script: &mut Script, file: &[u8], path: &[u8]) -> Option<
         "find-first-128" if path.len() > 128 => path[..128].to_vec(),
         "find-in-any-case" => path.to_ascii_lowercase(),
         "find-to-zero-byte" => path.split(|byte| *byte == 0).next()?.to_vec(),
-        "find-path-first" if path.is_empty() || path.len() > 128 => return refused(15),
-        "find-127" if path.len() == 128 => return refused(15),
+        "find-path-first" if path.is_empty() || path.len() > 128 => return Some(not_listed(script, file, path)),
+        "find-127" if path.len() == 128 => return Some(not_listed(script, file, path)),
         "find-31-bit" => {
             let answer = script.call(&call(file, path));
             let length: u64 = answer.split(' ').nth(2)?.parse().ok()?;
@@ -126,6 +125,13 @@ fn find(mistake: &str, script: &mut Script, file: &[u8], path: &[u8]) -> Option<
         _ => return None,
     };
     Some(script.call(&call(file, &other)))
+}
+
+/// 15, and the number of names that belongs to the call.
+fn not_listed(script: &mut Script, file: &[u8], path: &[u8]) -> String {
+    let answer = script.call(&call(file, path));
+    let compared = answer.rsplit(' ').next().unwrap_or_default();
+    format!("find 15 0 {} {compared}", "0".repeat(64))
 }
 
 fn call(file: &[u8], path: &[u8]) -> Call {

@@ -1,10 +1,9 @@
--- `find` meets its contract: refused with zeros, or the image that the file lists.
+-- `find` meets its contract: refused with zeros, with the number of names compared where it is 15, or the image that the file lists.
 use borrow.Author.Needs.{needs}
-use mathlib.Core.Path.{refl, sym, _∙_}
+use mathlib.Core.Path.{refl}
 use Rattle.rules.specs.Steps.{answer}
-use Rattle.rules.proofs.TableLaws.{judged-is}
 use Rattle.tuf.specs.View.{view, viewImage}
-use Rattle.tuf.proofs.TargetsLaws.{targets-unread, targets-read, image-listed, find-refused, find-found}
+use Rattle.tuf.proofs.TargetsLaws.{targets-unread, targets-fault, targets-read, find-refused, find-judged, find-unlisted, find-other, find-found}
 use Rattle.tuf.proofs.State.find.Statement.{statement}
 use Rattle.tuf.proofs.State.find.Tie as tie
 
@@ -19,7 +18,7 @@ unfolding answer
 returns c =
     let t = c .before .before .before .read-targets in
     let x = c .before .if1 .taken in
-    find-refused _ _ _ _ (targets-unread _ _ (t .result) (t .ensures) x _) x (c .no-image .ensures)
+    find-refused _ _ _ _ (targets-unread _ _ (t .result) (t .ensures) x _) x (targets-fault _ _ (t .result) (t .ensures) x) (c .no-image .ensures)
 
 digest-requires : tie.Need-digest-requires
 digest-requires c κs = search needs
@@ -34,22 +33,31 @@ no-image-requires-2 : tie.Need-no-image-requires-2
 no-image-requires-2 c κs = search needs
 
 returns-2 : tie.Need-returns-2
-unfolding answer view
+unfolding view
 returns-2 c =
-    let t = c .before .before .before .before .before .before .before .read-targets in
-    let f = targets-read _ _ (t .result) (t .ensures) (c .before .before .before .before .before .if1 .left) in
-    let j = c .before .before .judge-find in
-    let k = j .ensures _ (record { digest-is = sym (c .before .before .before .before .digest .ensures); path-is = refl }) (f .targets) (record { listed-is = image-listed _ _ _ _ (f .image) }) _ in
-    find-refused _ _ _ _ (judged-is _ (f .said) ∙ sym k) (c .before .if2 .taken) (c .no-image2 .ensures)
+    let t = c .before .before .before .before .before .before .before .before .read-targets in
+    let f = targets-read _ _ (t .result) (t .ensures) (c .before .before .before .before .before .before .if1 .left) in
+    let j = find-judged _ _ (t .result) f _ (c .before .before .before .before .before .digest .ensures) _ (c .before .before .judge-find .ensures) in
+    find-unlisted _ _ _ _ j (c .before .if2 .taken) _ (c .no-image2 .ensures)
+
+no-image-requires-3 : tie.Need-no-image-requires-3
+no-image-requires-3 c κs = search needs
 
 returns-3 : tie.Need-returns-3
-unfolding view viewImage
+unfolding view
 returns-3 c =
-    let t = c .before .before .before .before .before .before .before .read-targets in
-    let f = targets-read _ _ (t .result) (t .ensures) (c .before .before .before .before .before .if1 .left) in
-    let j = c .before .before .judge-find in
-    let k = j .ensures _ (record { digest-is = sym (c .before .before .before .before .digest .ensures); path-is = refl }) (f .targets) (record { listed-is = image-listed _ _ _ _ (f .image) }) _ in
-    find-found _ _ (f .targets) _ (f .said) (sym k ∙ c .before .if2 .left) refl _ _ (f .image)
+    let t = c .before .before .before .before .before .before .before .before .before .read-targets in
+    let f = targets-read _ _ (t .result) (t .ensures) (c .before .before .before .before .before .before .before .if1 .left) in
+    let j = find-judged _ _ (t .result) f _ (c .before .before .before .before .before .before .digest .ensures) _ (c .before .before .before .judge-find .ensures) in
+    find-other _ _ _ _ j (c .before .if3 .taken) (c .before .before .if2 .left) _ (c .no-image3 .ensures)
+
+returns-4 : tie.Need-returns-4
+unfolding view viewImage
+returns-4 c =
+    let t = c .before .before .before .before .before .before .before .before .before .read-targets in
+    let f = targets-read _ _ (t .result) (t .ensures) (c .before .before .before .before .before .before .before .if1 .left) in
+    let j = find-judged _ _ (t .result) f _ (c .before .before .before .before .before .before .digest .ensures) _ (c .before .before .before .judge-find .ensures) in
+    find-found _ _ _ _ j (c .before .if3 .left) refl
 
 pub find-spec : {M : Type 1} → statement M
 find-spec =
@@ -63,4 +71,6 @@ find-spec =
     judge-find-requires
     no-image-requires-2
     returns-2
-    returns-3)
+    no-image-requires-3
+    returns-3
+    returns-4)
