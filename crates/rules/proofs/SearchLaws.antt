@@ -108,23 +108,29 @@ image-path n v i e =
     let digest = had _ _ (long .2) in
     kept-is _ n (name .1) .1 ∙ ap (λ (x : Image). x .path) (some-is (digest .2))
 
-more-rise : (p : Bytes) (ms : Members) (is : List Image) (d : ℕ) → ValidMore p ms d → eachNamed image ms ≡ some is → Above p (paths is)
-unfolding Valid eachNamed Above paths
-more-rise p mnil is d h e = subst (λ (x : List Image). Above p (paths x)) (some-is e) tt
-more-rise p (mcons n v ms) is d h e =
-    let i = had _ _ e in
-    let more = had _ _ (i .2) in
-    subst (λ (x : List Image). Above p (paths x)) (some-is (more .2))
-    (rw (← image-path n v (i .0) (i .1)) (h .0, more-rise n ms (more .0) d (h .3) (more .1)))
+-- the names of members, in the text's order
+unfoldable namesOf : Members → List Bytes
+namesOf mnil = []
+namesOf (mcons n v ms) = n ∷ namesOf ms
 
-members-rise : (ms : Members) (is : List Image) (d : ℕ) → ValidMembers ms d → eachNamed image ms ≡ some is → Rising (paths is)
-unfolding Valid eachNamed Rising paths
-members-rise mnil is d h e = subst (λ (x : List Image). Rising (paths x)) (some-is e) tt
-members-rise (mcons n v ms) is d h e =
+more-rise : (p : Bytes) (ms : Members) (d : ℕ) → ValidMore p ms d → Above p (namesOf ms)
+unfolding Valid Above namesOf
+more-rise p mnil d h = tt
+more-rise p (mcons n v ms) d h = (h .0, more-rise n ms d (h .3))
+
+members-rise : (ms : Members) (d : ℕ) → ValidMembers ms d → Rising (namesOf ms)
+unfolding Valid Rising namesOf
+members-rise mnil d h = tt
+members-rise (mcons n v ms) d h = more-rise n ms d (h .2)
+
+-- an image has its member's name
+images-named : (ms : Members) (is : List Image) → eachNamed image ms ≡ some is → namesOf ms ≡ paths is
+unfolding eachNamed namesOf paths
+images-named mnil is e = ap paths (some-is e)
+images-named (mcons n v ms) is e =
     let i = had _ _ e in
     let more = had _ _ (i .2) in
-    subst (λ (x : List Image). Rising (paths x)) (some-is (more .2))
-    (rw (← image-path n v (i .0) (i .1)) (more-rise n ms (more .0) d (h .2) (more .1)))
+    rw (image-path n v (i .0) (i .1), images-named ms (more .0) (more .1)) (ap paths (some-is (more .2)))
 
 pub images-rise : (v : Json) (is : List Image) → ValidSome v → images v ≡ some is → Rising (paths is)
 unfolding images
@@ -133,7 +139,8 @@ images-rise v is h e =
     let limited = had _ _ (ms .2) in
     let m = members-valid v (ms .0) h (ms .1) in
     let same-members = kept-is (leb (count (ms .0)) maxTargets) (ms .0) (limited .1) .1 in
-    members-rise (limited .0) is (m .0) (subst (λ (x : Members). ValidMembers x (m .0)) same-members (m .1)) (limited .2)
+    let valid = subst (λ (x : Members). ValidMembers x (m .0)) same-members (m .1) in
+    subst Rising (images-named (limited .0) is (limited .2)) (members-rise (limited .0) (m .0) valid)
 
 pub targets-rise : (file : Bytes) (g : File (List Image)) (es : List Bytes) → targetsIn file ≡ says g es → Rising (paths (g .body))
 unfolding targetsIn readTargets targets must
