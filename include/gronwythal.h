@@ -213,8 +213,8 @@ static inline gw_answer gw_new_cycle(gw_state *state, int64_t start)
 
 /*
  * The next root (1 to 6, 9, 10, 11, 16), whose version is the held one plus one: the verdicts under the held root's keys, and those under
- * the keys that the file itself lists. Offer each root in turn until there is none. One that changes the set of keys of timestamp or
- * snapshot drops those records and targets; one that changes that of targets alone drops targets.
+ * the keys that the file itself lists. Offer each root in turn until there is none. One that changes the set of keys or the threshold of
+ * timestamp or snapshot drops those records and targets; one that changes those of targets alone drops targets.
  */
 static inline gw_answer gw_root(gw_state *state, const uint8_t *file, size_t file_len, const uint8_t *held_row,
                                 size_t held_row_len, const uint8_t *own_row, size_t own_row_len)

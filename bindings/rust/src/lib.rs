@@ -88,8 +88,8 @@ impl State {
     /// The next root (1 to 6, 9, 10, 11, 16), whose version is the held one plus one: the verdicts under the held root's keys, and those
     /// under the keys that the file itself lists.
     ///
-    /// A root that changes the set of keys of timestamp or snapshot drops those records and targets; one that changes that of targets alone
-    /// drops targets.
+    /// A root that changes the set of keys or the threshold of timestamp or snapshot drops those records and targets; one that changes
+    /// those of targets alone drops targets.
     pub fn root(&mut self, file: &[u8], held_row: &[u8], own_row: &[u8]) -> Result<(), Refusal> {
         // SAFETY: slices are lent.
         let step = unsafe {

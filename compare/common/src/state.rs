@@ -78,8 +78,11 @@ impl<F: Forms> State<F> {
         ensure(new.is_signed(new.root, &entries, own_row), Refusal::FewOwnKeys)?;
         ensure(new.header.version == held.header.version + 1, Refusal::WrongVersion)?;
 
-        // "Timestamp or snapshot keys are rotated when the role's set of keyids differs"
-        let rotated = |role: fn(&Root) -> Role| !held.keyids(role(held)).eq(new.keyids(role(&new)));
+        // A5: "a role is rotated when its set of keyids or its threshold differs"
+        let rotated = |role: fn(&Root) -> Role| {
+            let (before, after) = (role(held), role(&new));
+            before.threshold != after.threshold || !held.keyids(before).eq(new.keyids(after))
+        };
         let drops_all = rotated(|root| root.timestamp) || rotated(|root| root.snapshot);
         if drops_all || rotated(|root| root.targets) {
             self.targets = None;

@@ -342,17 +342,43 @@ mod steps {
         }
     }
 
+    /// A5: equal sets, in whatever order, and thresholds 1 and 2.
     #[test]
-    fn order_and_threshold_of_keyids_are_no_rotation() {
-        let mut first = Root::new(1);
-        first.timestamp = (vec![5, 6], 1);
-        let mut state = installed(&first);
-        assert_eq!(state.timestamp(&timestamp_file(1, 1), &[1]), Ok(()));
-        let mut second = first.clone();
-        second.version = 2;
-        second.timestamp = (vec![6, 5], 2);
-        assert_eq!(state.root(&second.file(&[1]), &[1], &[1]), Ok(()));
-        assert!(state.timestamp.is_some());
+    fn another_threshold_is_a_rotation_and_another_order_is_none() {
+        const ALL: [usize; 6] = [1, 2, 3, 4, 5, 6];
+        let row = [1; ALL.len()];
+        let timestamp = file(&ALL, &shelf::timestamp(1, EXPIRES, r#""version":1"#));
+        let snapshot = file(&ALL, &shelf::snapshot(1, EXPIRES, r#""targets.json":{"version":1}"#));
+        let targets = file(&ALL, &shelf::targets(1, EXPIRES, ""));
+
+        type Part = fn(&mut Root) -> &mut (Vec<usize>, u64);
+        let parts: [(Part, [bool; 3]); 4] = [
+            (|root| &mut root.root, [true, true, true]),
+            (|root| &mut root.timestamp, [false, false, false]),
+            (|root| &mut root.snapshot, [false, false, false]),
+            (|root| &mut root.targets, [true, true, false]),
+        ];
+        for (number, (part, kept)) in parts.into_iter().enumerate() {
+            for (before, after) in [(1, 1), (1, 2), (2, 1), (2, 2)] {
+                let mut root = Root::new(1);
+                *part(&mut root) = (vec![5, 6], before);
+                let mut state = State::install(&root.file(&ALL), &row, NOW).unwrap();
+                assert_eq!(state.timestamp(&timestamp, &row), Ok(()));
+                assert_eq!(state.snapshot(&snapshot, &row), Ok(()));
+                assert_eq!(state.targets(&targets, &row), Ok(()));
+
+                root.version = 2;
+                *part(&mut root) = (vec![6, 5], after);
+                assert_eq!(state.root(&root.file(&ALL), &row, &row), Ok(()));
+                let held = [
+                    state.timestamp.is_some(),
+                    state.snapshot.is_some(),
+                    state.targets.is_some(),
+                ];
+                let kept = if before == after { [true; 3] } else { kept };
+                assert_eq!(held, kept, "role {number}: {before} and {after}");
+            }
+        }
     }
 
     #[test]

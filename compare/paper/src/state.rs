@@ -103,11 +103,14 @@ impl State {
         Ok(())
     }
 
-    /// "Timestamp or snapshot keys are rotated when the role's set of keyids differs: then timestamp and snapshot
-    /// records are dropped, and by house rule targets too. If only the targets set differs, the targets record alone is
-    /// dropped".
+    /// A5: "a role is rotated when its set of keyids or its threshold differs, for timestamp, snapshot and targets alike".
+    /// "Timestamp or snapshot keys are rotated ..: then timestamp and snapshot records are dropped, and by house rule targets
+    /// too. If only the targets set differs, the targets record alone is dropped".
     fn drop_rotated(&mut self, held: &Root, new: &Root) {
-        let rotated = |role: fn(&Root) -> &Role| role(held).keyids != role(new).keyids;
+        let rotated = |role: fn(&Root) -> &Role| {
+            let (old, new) = (role(held), role(new));
+            old.keyids != new.keyids || old.threshold != new.threshold
+        };
         if rotated(|root| &root.timestamp) || rotated(|root| &root.snapshot) {
             self.timestamp = None;
             self.snapshot = None;

@@ -1,6 +1,6 @@
 -- A history of concrete files, with what it answers, and a publisher after it who keeps every rule while older records are held: the claim
 -- is not empty. Files of one role are accepted again with equal versions and other contents; a root changes the targets keys alone; a
--- root rotates the timestamp keys, and after it the versions do fall.
+-- root changes nothing but the threshold of the timestamp role (A5), and after it the versions do fall.
 use mathlib.Core.Path.{_≡_, refl, sym, ap, _∙_, subst}
 use mathlib.Core.Option.{Option, none, some}
 use mathlib.Core.Bool.{false, not}
@@ -15,29 +15,34 @@ use Rattle.base.proofs.ByteLaws.{same-self}
 use Rattle.sha256.specs.Message.{digestOf}
 use Rattle.date.specs.Calendar.{expired}
 use Rattle.rules.specs.Records.{Image, File}
+use Rattle.rules.specs.Forms.{different}
 use Rattle.rules.specs.State.{Root, Timestamp, Snapshot, Targets, State, keepTargets, rootIn, timestampIn, snapshotIn, targetsIn, Row, Install, RootOffer, FileOffer, Query, Call, newCycle, newRoot, newTimestamp, newSnapshot, newTargets, find, askKey, askState}
 use Rattle.rules.specs.Table.{_when_, first}
 use Rattle.rules.specs.Steps.{installTable, rootTable, timestampTable, snapshotTable, targetsTable, findTable, keyTable, installAnswer, answer, next, installed, rootAlone, withStart, withRoot, withTimestamp, withSnapshot, withTargets, aRoot, aTimestamp, aSnapshot, aTargets, offered, trusting, started, afterRoot}
 use Rattle.rules.specs.Words.{GoodRow, Enough, Keeps}
-use Rattle.rules.specs.History.{History, run, end, Event, calls, events, happened, Apart, BecomesTrusted, atCall, Idle, Plan, afterRoots, atTimestamp, atSnapshot, atTargets, lastRoot, Fresh, Honest, Through}
+use Rattle.rules.specs.History.{History, run, end, Event, calls, events, happened, Apart, Unrotated, BecomesTrusted, atCall, Idle, Plan, afterRoots, atTimestamp, atSnapshot, atTargets, lastRoot, Fresh, Honest, Through}
 use Rattle.cases.proofs.Texts.{k, l}
 use Rattle.rules.proofs.Computing.{tables}
 use Rattle.rules.proofs.OptionLaws.{none-not-some, some-is}
+use Rattle.rules.proofs.ListLaws.{different-true}
 use Rattle.rules.proofs.WordLaws.{row-good, fresh-exactly, passes-enough, keeps-exactly, matches-exactly}
 use Rattle.rules.proofs.TableLaws.{one-held, judged-is}
 use Rattle.rules.proofs.NextLaws.{next-trusting, next-refused, next-same, says-what}
 use Rattle.rules.proofs.ExactlyLaws.{next-cycle, install-after}
 use Rattle.history.proofs.Demand3.{apart-at, demand3}
-use Rattle.cases.proofs.WitnessFiles.{a, b, only, rootText, rootAt, versionText, fullText, versionOnly, full, timestampText, timestampAt, snapshotText, targetsText, targetsAt, imageText, anImage, plainNames, moreNames, lowNames, fullNames, snapshotDigest, low, complete, targets-digest, snapshot-digest, Says, readings}
+use Rattle.cases.proofs.WitnessFiles.{a, b, only, pair, root1Text, root2Text, root3Text, root4Text, root1, root2, root3, root4, versionText, fullText, versionOnly, full, timestampText, timestampAt, snapshotText, targetsText, targetsAt, imageText, anImage, plainNames, moreNames, lowNames, fullNames, snapshotDigest, low, complete, targets-digest, snapshot-digest, Says, readings}
 
 -- ## The calls
 
--- signed by key a, or by key b
+-- signed by key a, by key b, or by both
 abbrev pub byA : Row
 byA = 1 ∷ 0 ∷ []
 
 abbrev pub byB : Row
 byB = 0 ∷ 1 ∷ []
+
+abbrev pub byBoth : Row
+byBoth = 1 ∷ 1 ∷ []
 
 abbrev pub aNewRoot : Bytes → Call
 aNewRoot file = newRoot (record { file = file; heldRow = byA; ownRow = byA })
@@ -49,7 +54,7 @@ abbrev pub offer : Bytes → Row → FileOffer
 offer file row = record { file = file; row = row }
 
 abbrev pub theInstall : Install
-theInstall = record { file = rootText "1" k k k; row = byA; start = pos 1000 }
+theInstall = record { file = root1Text; row = byA; start = pos 1000 }
 
 abbrev pub theCalls : List Call
 theCalls =
@@ -62,12 +67,13 @@ theCalls =
     ∷ newSnapshot (offer (snapshotText "7" moreNames) byA)
     ∷ newTargets (offer (targetsText "3" []) byA)
     -- a root that changes the targets keys alone: the targets have to be signed anew
-    ∷ aNewRoot (rootText "2" k k l)
+    ∷ aNewRoot root2Text
     ∷ newTargets (offer (targetsText "3" imageText) byA)
     ∷ newTargets (offer (targetsText "3" imageText) byB)
-    -- a root that rotates the timestamp keys: lower versions come after it
-    ∷ aNewRoot (rootText "3" l k l)
-    ∷ aNewTimestamp (timestampText "1" (versionText "2")) byB
+    -- a root that asks for two timestamp keys in place of one: what one key signed is believed no more, and lower versions come after it
+    ∷ aNewRoot root3Text
+    ∷ aNewTimestamp (timestampText "6" (versionText "7")) byA
+    ∷ aNewTimestamp (timestampText "1" (versionText "2")) byBoth
     ∷ newSnapshot (offer (snapshotText "2" lowNames) byA)
     ∷ newTargets (offer (targetsText "1" imageText) byB)
     ∷ askKey k
@@ -153,6 +159,11 @@ root-refused : {s : State} {n : ℕ} (r : Root) {o : RootOffer} → Says rootIn 
 unfolding answer
 root-refused {s} r {o} reads e = refused-goes (judged-is (rootTable s o) reads ∙ e)
 
+timestamp-refused : {s : State} {n : ℕ} (t : Timestamp) {o : FileOffer} → Says timestampIn (o .file) t
+    → first (timestampTable s o t (a ∷ b ∷ [])) ≡ suc n → Goes s (newTimestamp o) (suc n) s
+unfolding answer
+timestamp-refused {s} t {o} reads e = refused-goes (judged-is (timestampTable s o) reads ∙ e)
+
 targets-refused : {s : State} {n : ℕ} (g : File (List Image)) {o : FileOffer} → Says targetsIn (o .file) g
     → first (targetsTable s o g (a ∷ b ∷ [])) ≡ suc n → Goes s (newTargets o) (suc n) s
 unfolding answer
@@ -188,9 +199,9 @@ kept file version = record { version = version; expires = pos 1893456000; digest
 abbrev pub held1 : Targets
 held1 = kept (targetsText "1" imageText) 1
 
-chain : Chain (at (rootAt 1 a a a) none none none (pos 1000)) theCalls
-    (0 ∷ 0 ∷ 0 ∷ 0 ∷ 0 ∷ 0 ∷ 0 ∷ 0 ∷ 9 ∷ 0 ∷ 0 ∷ 0 ∷ 0 ∷ 0 ∷ 0 ∷ [])
-    (at (rootAt 3 b a b) (some (timestampAt 1 (versionOnly 2))) (some low) (some held1) (pos 1000))
+chain : Chain (at root1 none none none (pos 1000)) theCalls
+    (0 ∷ 0 ∷ 0 ∷ 0 ∷ 0 ∷ 0 ∷ 0 ∷ 0 ∷ 9 ∷ 0 ∷ 0 ∷ 9 ∷ 0 ∷ 0 ∷ 0 ∷ 0 ∷ [])
+    (at root3 (some (timestampAt 1 (versionOnly 2))) (some low) (some held1) (pos 1000))
 unfolding tables digitOf allHex isHex undo withRoot withTimestamp withSnapshot withTargets keepTargets
 chain =
     step (timestamp-goes _ (readings .timestamp5) refl)
@@ -200,15 +211,16 @@ chain =
     (step (timestamp-goes _ (readings .timestamp6) refl)
     (step (snapshot-goes _ (readings .snapshot7More) refl)
     (step (targets-goes _ (readings .empty3) refl)
-    (step (root-goes (rootAt 1 a a a) _ refl (readings .root2) refl)
+    (step (root-goes root1 _ refl (readings .root2) refl)
     (step (targets-refused _ (readings .targets3) refl)
     (step (targets-goes _ (readings .targets3) refl)
-    (step (root-goes (rootAt 2 a a b) _ refl (readings .root3) refl)
+    (step (root-goes root2 _ refl (readings .root3) refl)
+    (step (timestamp-refused _ (readings .timestamp6) refl)
     (step (timestamp-goes _ (readings .timestamp1) refl)
     (step (snapshot-goes _ (readings .snapshot2) refl)
     (step (targets-goes _ (readings .targets1) refl)
     (step (key-goes refl)
-    stop))))))))))))))
+    stop)))))))))))))))
 
 pub install-answers : installAnswer theInstall ≡ 0
 unfolding tables installAnswer
@@ -217,31 +229,31 @@ install-answers = judged-is (installTable theInstall) (readings .root1)
 abbrev pub theHistory : History
 theHistory = record { install = theInstall; accepted = install-answers; calls = theCalls }
 
-installed-is : installed theInstall ≡ at (rootAt 1 a a a) none none none (pos 1000)
+installed-is : installed theInstall ≡ at root1 none none none (pos 1000)
 unfolding rootAlone
-installed-is = install-after theInstall (rootAt 1 a a a) (a ∷ b ∷ []) (readings .root1) install-answers
+installed-is = install-after theInstall root1 (a ∷ b ∷ []) (readings .root1) install-answers
 
--- one call is refused: targets signed by a key that the role has no longer
-pub answered : answersOf (installed theInstall) theCalls ≡ 0 ∷ 0 ∷ 0 ∷ 0 ∷ 0 ∷ 0 ∷ 0 ∷ 0 ∷ 9 ∷ 0 ∷ 0 ∷ 0 ∷ 0 ∷ 0 ∷ 0 ∷ []
+-- two calls are refused: targets signed by a key that the role has no longer, and a timestamp signed by one key where two are asked for
+pub answered : answersOf (installed theInstall) theCalls ≡ 0 ∷ 0 ∷ 0 ∷ 0 ∷ 0 ∷ 0 ∷ 0 ∷ 0 ∷ 9 ∷ 0 ∷ 0 ∷ 9 ∷ 0 ∷ 0 ∷ 0 ∷ 0 ∷ []
 answered = ap (λ (s : State). answersOf s theCalls) installed-is ∙ chain-answers chain
 
 -- what is held in the end
 abbrev pub theEnd : State
-theEnd = at (rootAt 3 b a b) (some (timestampAt 1 (versionOnly 2))) (some low) (some held1) (pos 1000)
+theEnd = at root3 (some (timestampAt 1 (versionOnly 2))) (some low) (some held1) (pos 1000)
 
 pub ends : end theHistory ≡ theEnd
 unfolding end
 ends = ap (λ (s : State). run s theCalls) installed-is ∙ chain-run chain
 
--- ## After the rotation versions fall: timestamp 6 becomes trusted, and later timestamp 1
+-- ## After the rotation by the threshold alone versions fall: timestamp 6 becomes trusted, and later timestamp 1
 
 abbrev timestamp6 : Call
 timestamp6 = aNewTimestamp (timestampText "6" (versionText "7")) byA
 
 abbrev timestamp1 : Call
-timestamp1 = aNewTimestamp (timestampText "1" (versionText "2")) byB
+timestamp1 = aNewTimestamp (timestampText "1" (versionText "2")) byBoth
 
-accepted-at : (before : List Call) (c : Call) → answer (run (at (rootAt 1 a a a) none none none (pos 1000)) before) c ≡ 0
+accepted-at : (before : List Call) (c : Call) → answer (run (at root1 none none none (pos 1000)) before) c ≡ 0
     → answer (run (installed theInstall) before) c ≡ 0
 accepted-at before c e = ap (λ (s : State). answer (run s before) c) installed-is ∙ e
 
@@ -258,21 +270,29 @@ unfolding offered run
 falling =
     let s = installed theInstall in
     let before = take 4 theCalls in
-    let between = take 6 (drop 5 theCalls) in
+    let between = take 7 (drop 5 theCalls) in
     let zeros : List ℕ = 0 ∷ 0 ∷ 0 ∷ 0 ∷ [] in
     record {
       earlier = calls (run s before) timestamp6;
       between = events (next (run s before) timestamp6) between;
       later = calls (run (next (run s before) timestamp6) between) timestamp1;
-      apart = apart-at theHistory before timestamp6 between timestamp1 (drop 12 theCalls) refl;
+      apart = apart-at theHistory before timestamp6 between timestamp1 (drop 13 theCalls) refl;
       first =
           atCall (says-what aTimestamp (readings .timestamp6))
           (accepted-at before timestamp6 (chain-answer before zeros timestamp6 _ 0 _ refl chain));
       second =
           atCall (says-what aTimestamp (readings .timestamp1))
-          (accepted-at (take 11 theCalls) timestamp1
-          (chain-answer (take 11 theCalls) (zeros ++ (zeros ++ (9 ∷ 0 ∷ 0 ∷ []))) timestamp1 _ 0 _ refl chain));
+          (accepted-at (take 12 theCalls) timestamp1
+          (chain-answer (take 12 theCalls) (zeros ++ (zeros ++ (9 ∷ 0 ∷ 0 ∷ 9 ∷ []))) timestamp1 _ 0 _ refl chain));
     }
+
+-- so by the claim a root between them rotates, in the sense of its exception
+pub exception : ¬ Unrotated (falling .between)
+exception unrotated =
+    let rise =
+    demand3 theHistory .timestampsRise (falling .earlier) (falling .later) (falling .between) _ _ (falling .apart) unrotated (falling .first)
+    (falling .second) in
+    absurd (omega (arith, rise .0))
 
 -- ## A publisher after it
 
@@ -286,9 +306,9 @@ plan =
     record {
       roots =
           record {
-            between = aNewRoot (rootText "3" l k l) ∷ [];
-            offer = record { file = rootText "4" l k l; heldRow = byA; ownRow = byA };
-            file = rootAt 4 b a b;
+            between = aNewRoot root3Text ∷ [];
+            offer = record { file = root4Text; heldRow = byA; ownRow = byA };
+            file = root4;
             entries = both;
             reads = readings .root4;
           }
@@ -296,7 +316,7 @@ plan =
       timestamp =
           record {
             between = newCycle (pos 2000) ∷ [];
-            offer = record { file = timestampText "2" (fullText "a61bf372fb8071f57781190def3e1bbe8de30fd552348bbd194ae22f54965f8f" "699" "3"); row = byB };
+            offer = record { file = timestampText "2" (fullText "a61bf372fb8071f57781190def3e1bbe8de30fd552348bbd194ae22f54965f8f" "699" "3"); row = byBoth };
             file = timestampAt 2 (full snapshotDigest 699 3);
             entries = both;
             reads = readings .timestamp2;
@@ -321,13 +341,13 @@ plan =
 
 -- the states that its calls are given
 abbrev pub before₁ : State
-before₁ = at (rootAt 4 b a b) (some (timestampAt 1 (versionOnly 2))) (some low) (some held1) (pos 2000)
+before₁ = at root4 (some (timestampAt 1 (versionOnly 2))) (some low) (some held1) (pos 2000)
 
 abbrev pub before₂ : State
-before₂ = at (rootAt 4 b a b) (some (timestampAt 2 (full snapshotDigest 699 3))) (some low) (some held1) (pos 2000)
+before₂ = at root4 (some (timestampAt 2 (full snapshotDigest 699 3))) (some low) (some held1) (pos 2000)
 
 abbrev pub before₃ : State
-before₃ = at (rootAt 4 b a b) (some (timestampAt 2 (full snapshotDigest 699 3))) (some complete) (some held1) (pos 3000)
+before₃ = at root4 (some (timestampAt 2 (full snapshotDigest 699 3))) (some complete) (some held1) (pos 3000)
 
 cycle-goes : {s : State} {t : ℤ} → Goes s (newCycle t) 0 (withStart s t)
 cycle-goes {s} {t} = let w = next-cycle s t in record { answers = w .0; becomes = w .1 }
@@ -336,13 +356,13 @@ state-goes : {s : State} → Goes s askState 0 s
 unfolding answer offered started
 state-goes {s} = record { answers = refl; becomes = next-same s askState refl refl }
 
-root-again : Goes theEnd (aNewRoot (rootText "3" l k l)) 11 theEnd
+root-again : Goes theEnd (aNewRoot root3Text) 11 theEnd
 unfolding tables
-root-again = root-refused (rootAt 3 b a b) (readings .root3) refl
+root-again = root-refused root3 (readings .root3) refl
 
 at-timestamp : atTimestamp theEnd plan ≡ before₁
 unfolding tables run afterRoots withRoot withStart
-at-timestamp = chain-run (step root-again (step (root-goes (rootAt 3 b a b) (rootAt 4 b a b) refl (readings .root4) refl) (step cycle-goes stop)))
+at-timestamp = chain-run (step root-again (step (root-goes root3 root4 refl (readings .root4) refl) (step cycle-goes stop)))
 
 at-snapshot : atSnapshot theEnd plan ≡ before₂
 unfolding tables run withTimestamp
@@ -377,6 +397,10 @@ row-b : GoodRow both byB
 unfolding tables
 row-b = row-good both byB .0 refl
 
+row-both : GoodRow both byBoth
+unfolding tables
+row-both = row-good both byBoth .0 refl
+
 enough-a : Enough (only a) both byA
 unfolding tables
 enough-a = passes-enough (only a) both byA (λ m. elim m [ ], tt) refl
@@ -385,12 +409,16 @@ enough-b : Enough (only b) both byB
 unfolding tables
 enough-b = passes-enough (only b) both byB (λ m. elim m [ ], tt) refl
 
-fresh : (start : ℤ) → expired (pos 1893456000) start ≡ false → Fresh (rootAt 4 b a b) plan start
+enough-both : Enough (pair 2) both byBoth
+unfolding tables different
+enough-both = passes-enough (pair 2) both byBoth (different-true both .0 refl) refl
+
+fresh : (start : ℤ) → expired (pos 1893456000) start ≡ false → Fresh root4 plan start
 fresh start e =
     let f = fresh-exactly (pos 1893456000) start .0 e in
     record { ofRoot = f; ofTimestamp = f; ofSnapshot = f; ofTargets = f }
 
-honest-end : Honest theEnd (rootAt 3 b a b) plan
+honest-end : Honest theEnd root3 plan
 unfolding tables offered lastRoot
 honest-end =
     record {
@@ -398,11 +426,11 @@ honest-end =
       quietTimestamp = (none-idle refl, tt);
       quietSnapshot = (none-idle refl, tt);
       quietTargets = (none-idle refl, tt);
-      timestampRow = row-b;
+      timestampRow = row-both;
       snapshotRow = row-a;
       targetsRow = row-b;
       roots = (record { version = refl; heldRow = row-a; ownRow = row-a; heldKeys = enough-a; ownKeys = enough-a }, tt);
-      timestampKeys = enough-b;
+      timestampKeys = enough-both;
       snapshotKeys = enough-a;
       targetsKeys = enough-b;
       newer = λ t e. held-is at-timestamp (λ s. s .timestamp) (λ t. t .version < 2) e refl (omega arith);
@@ -415,17 +443,17 @@ honest-end =
       snapshotMatches = matches-exactly _ _ _ .0 (refl, not-other _ _ snapshot-digest);
       targetsVersion = refl;
       targetsMatches = matches-exactly _ _ _ .0 (refl, not-other _ _ targets-digest);
-      freshTimestamp = subst (λ (s : State). Fresh (rootAt 4 b a b) plan (s .start)) (sym at-timestamp) (fresh (pos 2000) refl);
-      freshSnapshot = subst (λ (s : State). Fresh (rootAt 4 b a b) plan (s .start)) (sym at-snapshot) (fresh (pos 2000) refl);
-      freshTargets = subst (λ (s : State). Fresh (rootAt 4 b a b) plan (s .start)) (sym at-targets) (fresh (pos 3000) refl);
+      freshTimestamp = subst (λ (s : State). Fresh root4 plan (s .start)) (sym at-timestamp) (fresh (pos 2000) refl);
+      freshSnapshot = subst (λ (s : State). Fresh root4 plan (s .start)) (sym at-snapshot) (fresh (pos 2000) refl);
+      freshTargets = subst (λ (s : State). Fresh root4 plan (s .start)) (sym at-targets) (fresh (pos 3000) refl);
     }
 
 -- so it gets through
-pub honest : Honest (end theHistory) (rootAt 3 b a b) plan
-honest = subst (λ (s : State). Honest s (rootAt 3 b a b) plan) (sym ends) honest-end
+pub honest : Honest (end theHistory) root3 plan
+honest = subst (λ (s : State). Honest s root3 plan) (sym ends) honest-end
 
-pub gets-through : Through (end theHistory) (rootAt 3 b a b) plan
+pub gets-through : Through (end theHistory) root3 plan
 gets-through =
     let p = demand3 theHistory .publisher in
-    let held : p .0 ≡ rootAt 3 b a b = one-held (p .1) (ap (λ (s : State). s .root) ends) in
+    let held : p .0 ≡ root3 = one-held (p .1) (ap (λ (s : State). s .root) ends) in
     subst (λ (r : Root). Honest (end theHistory) r plan → Through (end theHistory) r plan) held (p .2 plan) honest

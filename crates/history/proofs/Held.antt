@@ -11,7 +11,7 @@ use Rattle.rules.specs.State.{Root, Timestamp, Snapshot, Targets, State, Instal
 use Rattle.rules.specs.Conditions.{rotates, rotatesTargets}
 use Rattle.rules.specs.Steps.{dropIf, withRoot, withTimestamp, withSnapshot, withTargets, next, installAnswer, installed, rootAlone, Item, aRoot, aTimestamp, aSnapshot, aTargets, trusting}
 use Rattle.rules.specs.Exactly.{RootRead}
-use Rattle.rules.specs.History.{History, run, end, Event, begins, calls, events, happened, BecomesTrusted, atInstall, replaces, OtherKeys, OtherTargetsKeys, LastOf, Another, AnotherOr}
+use Rattle.rules.specs.History.{History, run, end, Event, begins, calls, events, happened, BecomesTrusted, atInstall, replaces, Rotation, AnyRotation, LastOf, Another, AnotherOr}
 use Rattle.rules.proofs.OptionLaws.{none-not-some}
 use Rattle.rules.proofs.WordLaws.{rotates-exactly, rotates-targets-exactly}
 use Rattle.rules.proofs.TableLaws.{one-held}
@@ -273,22 +273,22 @@ module _ {A : Type 0} (part : State → Option A) (item : A → Item) (Differs :
       ))
 
 pub timestamp-held : (h : History) (t : Timestamp) → (end h .timestamp ≡ some t)
-    ↔ LastOf (happened h) (aTimestamp t) (AnotherOr aTimestamp OtherKeys)
+    ↔ LastOf (happened h) (aTimestamp t) (AnotherOr aTimestamp Rotation)
 unfolding withRoot rootAlone
 timestamp-held =
-    part-held (λ s. s .timestamp) aTimestamp OtherKeys rotates rotates-exactly (λ s old new. refl) timestamp-touches
+    part-held (λ s. s .timestamp) aTimestamp Rotation rotates rotates-exactly (λ s old new. refl) timestamp-touches
     (λ s read c a k. left (trusted-by s read k)) (λ s c e. e .timestamp) (λ r start. refl) (λ o a k. elim k [ ])
 
 pub snapshot-held : (h : History) (n : Snapshot) → (end h .snapshot ≡ some n)
-    ↔ LastOf (happened h) (aSnapshot n) (AnotherOr aSnapshot OtherKeys)
+    ↔ LastOf (happened h) (aSnapshot n) (AnotherOr aSnapshot Rotation)
 unfolding withRoot rootAlone
 snapshot-held =
-    part-held (λ s. s .snapshot) aSnapshot OtherKeys rotates rotates-exactly (λ s old new. refl) snapshot-touches
+    part-held (λ s. s .snapshot) aSnapshot Rotation rotates rotates-exactly (λ s old new. refl) snapshot-touches
     (λ s read c a k. left (trusted-by s read k) .held) (λ s c e. e .snapshot) (λ r start. refl) (λ o a k. elim k [ ])
 
 pub targets-held : (h : History) (g : Targets) → (end h .targets ≡ some g)
-    ↔ LastOf (happened h) (aTargets g) (AnotherOr aTargets OtherTargetsKeys)
+    ↔ LastOf (happened h) (aTargets g) (AnotherOr aTargets AnyRotation)
 unfolding withRoot rootAlone
 targets-held =
-    part-held (λ s. s .targets) aTargets OtherTargetsKeys rotatesTargets rotates-targets-exactly (λ s old new. refl) targets-touches
+    part-held (λ s. s .targets) aTargets AnyRotation rotatesTargets rotates-targets-exactly (λ s old new. refl) targets-touches
     (λ s read c a k. left (trusted-by s read k) .held) (λ s c e. e .targets) (λ r start. refl) (λ o a k. elim k [ ])

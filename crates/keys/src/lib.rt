@@ -132,7 +132,7 @@ pub fn too_few(table: KeyTable, role: Role, entries: Entries, row: &[u8]) -> boo
     (count as u64) < role.threshold
 }
 
-// ---- Rotation: "rotated when the role's set of keyids differs"
+// ---- Rotation (A5): "a role is rotated when its set of keyids or its threshold differs"
 
 fn in_role(role: Role, i: usize) -> bool
     requires { ⌜ i < 16 ⌝ }
@@ -199,7 +199,10 @@ pub fn rotated(a: KeyTable, old: Role, b: KeyTable, new: Role) -> bool
     if !within(a, old, b, new) {
         return true;
     }
-    !within(b, new, a, old)
+    if !within(b, new, a, old) {
+        return true;
+    }
+    old.threshold != new.threshold
 }
 
 // ---- A key asked for

@@ -14,7 +14,7 @@ use Rattle.rules.specs.Forms.{isIn, different, entry, entries, envelope,
 use Rattle.rules.specs.Reading.{whole, parsed, judgedText, readWith, keyidsOf, opened, readEnvelope, known, spoken, inEnvelope, readAs, readRoot, readTimestamp, readSnapshot, readTargets}
 use Rattle.rules.specs.State.{blank, filter, keepRole, keepRoot, keepTimestamp, keepSnapshot, keepTargets, kept, rootIn, timestampIn, snapshotIn, targetsIn}
 use Rattle.rules.specs.Table.{first}
-use Rattle.rules.specs.Conditions.{badRow, otherVersion, listedAs, targetsEntry, staleSnapshot, staleTargets, otherLength, otherDigest, signed, count, tooFew, fallen, lost, within, rotated, rotates, rotatesTargets, imageOf, keyOf}
+use Rattle.rules.specs.Conditions.{badRow, otherVersion, listedAs, targetsEntry, staleSnapshot, staleTargets, otherLength, otherDigest, signed, count, tooFew, fallen, lost, within, otherKeys, rotated, rotates, rotatesTargets, imageOf, keyOf}
 use Rattle.rules.specs.Search.{paths, smaller, compared}
 use Rattle.rules.specs.Steps.{installTable, cycleTable, rootTable, timestampTable, snapshotTable, targetsTable, findTable, keyTable, faultNumber, judged, installAnswer, answer, refuses, withStart, withRoot, withTimestamp, withSnapshot, withTargets, afterRoot, trusting, whatSays, offered, started, trustingIf, accepted, next, rootAlone, begun, installed}
 use Rattle.rules.specs.Asked.{nothingFound, theImage, inTargets, found, comparedIn, unsearched, comparedBy, publicOf, inRoot, publicKey, lookOf, look, noEntry, nth, theEntry, entryIn, entryAt}
@@ -35,7 +35,7 @@ forms = tt
 
 -- the refusals of a call, on what a file says
 unfoldable pub tables : Unit {0}
-unfolding dates same less isIn filter first badRow otherVersion listedAs targetsEntry staleSnapshot staleTargets otherLength otherDigest signed count tooFew fallen lost within rotated rotates rotatesTargets imageOf keyOf paths smaller compared installTable cycleTable rootTable timestampTable snapshotTable targetsTable findTable keyTable withRoot
+unfolding dates same less isIn filter first badRow otherVersion listedAs targetsEntry staleSnapshot staleTargets otherLength otherDigest signed count tooFew fallen lost within otherKeys rotated rotates rotatesTargets imageOf keyOf paths smaller compared installTable cycleTable rootTable timestampTable snapshotTable targetsTable findTable keyTable withRoot
 tables = tt
 
 -- a call, and what it gives

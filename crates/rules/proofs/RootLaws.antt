@@ -1,6 +1,6 @@
 -- A root that was read: its key table has different keyids, and each kept role has the keyids of the file's role, all different, and a
 -- threshold from 1 to their number.
-use mathlib.Core.Path.{_≡_, sym, ap, _∙_, subst}
+use mathlib.Core.Path.{_≡_, refl, sym, ap, _∙_, subst}
 use mathlib.Core.Logic.{⊎-elim}
 use mathlib.Core.Option.{some}
 use mathlib.Core.Bool.{Bool, true, false, cond, _&&_}
@@ -172,6 +172,7 @@ role-says table v r e =
 pub record RoleKept (says keeps : Role) : Type 0 where
   pub different : Different (keeps .keyids)
   pub same-keyids : SameKeys keeps says
+  pub same-threshold : keeps .threshold ≡ says .threshold
   pub least : 1 ≤ keeps .threshold
   pub most : keeps .threshold ≤ length (keeps .keyids)
 
@@ -184,6 +185,7 @@ role-kept ks r d s =
     record {
       different = filter-different (λ k. isIn k (r .keyids)) (keyidsIn ks) d;
       same-keyids = λ k. (λ m. is-in k (r .keyids) .0 (is-kept k .0 m .1), back k);
+      same-threshold = refl;
       least = s .least;
       most = le-trans (s .most) (no-longer (r .keyids) (filter (λ k. isIn k (r .keyids)) (keyidsIn ks)) (s .different) back);
     }

@@ -254,14 +254,15 @@ drops old new =
     let s = withRoot (full 7) old new in
     absent (s .timestamp) ∷ absent (s .snapshot) ∷ absent (s .targets) ∷ []
 
-abbrev pub reordered : Role
-reordered = record { keyids = b ∷ a ∷ []; threshold = 2 }
+-- the keys of `both` in another order, with this threshold
+abbrev pub reordered : ℕ → Role
+reordered threshold = record { keyids = b ∷ a ∷ []; threshold = threshold }
 
 abbrev pub rotations : List (Case (List Bool))
 rotations =
     -- the same sets, in whatever order
     drops root4 (rootAt 5 (only b) (only b) (only b)) gives (false ∷ false ∷ false ∷ [])
-    ∷ drops (rootAt 4 both both both) (rootAt 5 reordered reordered reordered) gives (false ∷ false ∷ false ∷ [])
+    ∷ drops (rootAt 4 both both both) (rootAt 5 (reordered 1) (reordered 1) (reordered 1)) gives (false ∷ false ∷ false ∷ [])
     -- a key of the timestamp role added, removed, replaced
     ∷ drops root4 (rootAt 5 both (only b) (only b)) gives (true ∷ true ∷ true ∷ [])
     ∷ drops (rootAt 4 both (only b) (only b)) (rootAt 5 (only b) (only b) (only b)) gives (true ∷ true ∷ true ∷ [])
@@ -270,6 +271,13 @@ rotations =
     ∷ drops root4 (rootAt 5 (only b) both (only b)) gives (true ∷ true ∷ true ∷ [])
     -- "If only the targets set differs, the targets record alone is dropped"
     ∷ drops root4 (rootAt 5 (only b) (only b) both) gives (false ∷ false ∷ true ∷ [])
+    -- A5: "equal sets and thresholds 1 and 2", of the timestamp, the snapshot, the targets role; raised and lowered
+    ∷ drops (rootAt 4 both both both) (rootAt 5 (reordered 2) both both) gives (true ∷ true ∷ true ∷ [])
+    ∷ drops (rootAt 4 (reordered 2) both both) (rootAt 5 both both both) gives (true ∷ true ∷ true ∷ [])
+    ∷ drops (rootAt 4 both both both) (rootAt 5 both (reordered 2) both) gives (true ∷ true ∷ true ∷ [])
+    ∷ drops (rootAt 4 both (reordered 2) both) (rootAt 5 both both both) gives (true ∷ true ∷ true ∷ [])
+    ∷ drops (rootAt 4 both both both) (rootAt 5 both both (reordered 2)) gives (false ∷ false ∷ true ∷ [])
+    ∷ drops (rootAt 4 both both (reordered 2)) (rootAt 5 both both both) gives (false ∷ false ∷ true ∷ [])
     ∷ []
 
 pub rotations-right : Right rotations

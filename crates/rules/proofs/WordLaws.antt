@@ -20,9 +20,9 @@ use Rattle.rules.specs.Limits.{digestSize}
 use Rattle.rules.specs.Records.{Role, Listed, Named}
 use Rattle.rules.specs.Forms.{isIn}
 use Rattle.rules.specs.State.{Root, Snapshot, Row, filter}
-use Rattle.rules.specs.Conditions.{any, badRow, badDigest, otherVersion, listedAs, targetsEntry, otherLength, otherDigest, signed, count, tooFew, fallen, lost, within, rotated, rotates, rotatesTargets}
-use Rattle.rules.specs.Words.{GoodRow, GoodDigest, Signed, here, later, Different, Signers, Enough, SameKeys, Expired, Keeps, Matches}
-use Rattle.rules.specs.History.{OtherKeys, OtherTargetsKeys}
+use Rattle.rules.specs.Conditions.{any, badRow, badDigest, otherVersion, listedAs, targetsEntry, otherLength, otherDigest, signed, count, tooFew, fallen, lost, within, otherKeys, rotated, rotates, rotatesTargets}
+use Rattle.rules.specs.Words.{GoodRow, GoodDigest, Signed, here, later, Different, Signers, Enough, SameKeys, Rotated, Expired, Keeps, Matches}
+use Rattle.rules.specs.History.{Rotation, AnyRotation}
 use Rattle.rules.proofs.OptionLaws.{none-not-some, some-is, held-false}
 use Rattle.rules.proofs.ListLaws.{false-exactly, true-exactly, neither-exactly, both-exactly, either-exactly, not-exactly, same-exactly, any-false, all-true, is-in, no-longer, filtered, filter-different}
 
@@ -132,8 +132,8 @@ within-exactly xs ys =
     let w = all-true (λ x. isIn x ys) xs in
     (λ e k m. is-in k ys .0 (w .0 e k m), λ f. w .1 (λ k m. is-in k ys .1 (f k m)))
 
-pub same-keys : (old new : Role) → (rotated old new ≡ false) ↔ SameKeys old new
-unfolding rotated
+same-keys : (old new : Role) → (otherKeys old new ≡ false) ↔ SameKeys old new
+unfolding otherKeys
 same-keys old new =
     let w =
     not-exactly (within (old .keyids) (new .keyids) && within (new .keyids) (old .keyids))
@@ -141,25 +141,24 @@ same-keys old new =
     (within-exactly (old .keyids) (new .keyids)) (within-exactly (new .keyids) (old .keyids))) in
     (λ e k. (w .0 e .0 k, w .0 e .1 k), λ s. w .1 (λ k. s k .0, λ k. s k .1))
 
--- no keys of timestamp or snapshot are rotated
-rotates-none : (old new : Root) → (rotates old new ≡ false)
-    ↔ (SameKeys (old .timestampRole) (new .timestampRole) × SameKeys (old .snapshotRole) (new .snapshotRole))
+rotated-exactly : (old new : Role) → (rotated old new ≡ true) ↔ Rotated old new
+unfolding rotated
+rotated-exactly old new =
+    either-exactly (otherKeys old new) (not (eqb (old .threshold) (new .threshold)))
+    (true-exactly (otherKeys old new) (same-keys old new))
+    (true-exactly (not (eqb (old .threshold) (new .threshold))) (unequal (old .threshold) (new .threshold)))
+
+pub rotates-exactly : (old new : Root) → (rotates old new ≡ true) ↔ Rotation old new
 unfolding rotates
-rotates-none old new =
-    neither-exactly (rotated (old .timestampRole) (new .timestampRole)) (rotated (old .snapshotRole) (new .snapshotRole))
-    (same-keys (old .timestampRole) (new .timestampRole)) (same-keys (old .snapshotRole) (new .snapshotRole))
+rotates-exactly old new =
+    either-exactly (rotated (old .timestampRole) (new .timestampRole)) (rotated (old .snapshotRole) (new .snapshotRole))
+    (rotated-exactly (old .timestampRole) (new .timestampRole)) (rotated-exactly (old .snapshotRole) (new .snapshotRole))
 
-pub rotates-exactly : (old new : Root) → (rotates old new ≡ true) ↔ OtherKeys old new
-rotates-exactly old new = true-exactly (rotates old new) (rotates-none old new)
-
-pub rotates-targets-exactly : (old new : Root) → (rotatesTargets old new ≡ true) ↔ OtherTargetsKeys old new
+pub rotates-targets-exactly : (old new : Root) → (rotatesTargets old new ≡ true) ↔ AnyRotation old new
 unfolding rotatesTargets
 rotates-targets-exactly old new =
-    let w =
-    true-exactly (rotates old new || rotated (old .targetsRole) (new .targetsRole))
-    (neither-exactly (rotates old new) (rotated (old .targetsRole) (new .targetsRole)) (rotates-none old new)
-    (same-keys (old .targetsRole) (new .targetsRole))) in
-    (λ e s. w .0 e ((s .0, s .1), s .2), λ n. w .1 (λ s. n (s .0 .0, s .0 .1, s .1)))
+    either-exactly (rotates old new) (rotated (old .targetsRole) (new .targetsRole)) (rotates-exactly old new)
+    (rotated-exactly (old .targetsRole) (new .targetsRole))
 
 -- ## Lists of names
 

@@ -85,19 +85,23 @@ fallen n (some l) = ltb (l .version) (n .listed .version)
 unfoldable pub lost : List Named → List Named → Bool
 lost old new = any (λ n. fallen n (listedAs (n .name) new)) old
 
--- ## What an accepted root drops: "rotated when the role's set of keyids differs"
+-- ## What an accepted root drops
 
 unfoldable pub within : List Bytes → List Bytes → Bool
 within as′ bs = allOf (λ a. isIn a bs) as′
 
+unfoldable pub otherKeys : Role → Role → Bool
+otherKeys old new = not (within (old .keyids) (new .keyids) && within (new .keyids) (old .keyids))
+
+-- A5: "a role is rotated when its set of keyids or its threshold differs"
 unfoldable pub rotated : Role → Role → Bool
-rotated old new = not (within (old .keyids) (new .keyids) && within (new .keyids) (old .keyids))
+rotated old new = otherKeys old new || not (eqb (old .threshold) (new .threshold))
 
 -- "Timestamp or snapshot keys are rotated": "then timestamp and snapshot records are dropped, and by house rule targets too"
 unfoldable pub rotates : Root → Root → Bool
 rotates old new = rotated (old .timestampRole) (new .timestampRole) || rotated (old .snapshotRole) (new .snapshotRole)
 
--- "If only the targets set differs, the targets record alone is dropped"
+-- "If only the targets set differs, the targets record alone is dropped", and by A5 if only its threshold does
 unfoldable pub rotatesTargets : Root → Root → Bool
 rotatesTargets old new = rotates old new || rotated (old .targetsRole) (new .targetsRole)
 

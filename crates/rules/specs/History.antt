@@ -12,7 +12,7 @@ use Rattle.rules.specs.Records.{Key, Image, File, Read, says}
 use Rattle.rules.specs.State.{Root, Timestamp, Snapshot, Targets, State, keepTargets, rootIn, timestampIn, snapshotIn, targetsIn, Install, RootOffer, FileOffer, Call, newRoot, newTimestamp, newSnapshot, newTargets}
 use Rattle.rules.specs.Conditions.{targetsEntry}
 use Rattle.rules.specs.Steps.{installAnswer, answer, Item, aRoot, aTimestamp, aSnapshot, aTargets, offered, next, installed}
-use Rattle.rules.specs.Words.{GoodRow, Enough, OwnKeyid, Collision, SameKeys, Expired, Keeps, Matches}
+use Rattle.rules.specs.Words.{GoodRow, Enough, OwnKeyid, Collision, Rotated, Expired, Keeps, Matches}
 
 -- ## Histories
 
@@ -55,19 +55,17 @@ pub data Replaces (Differs : Root → Root → Type 0) : Event → Type 0 where
   replaces : {s : State} {c : Call} {old new : Root} → s .root ≡ some old → BecomesTrusted (calls s c) (aRoot new)
       → Differs old new → Replaces Differs (calls s c)
 
--- "Timestamp or snapshot keys are rotated when the role's set of keyids differs"
-abbrev pub OtherKeys : Root → Root → Type 0
-OtherKeys old new = ¬ (SameKeys (old .timestampRole) (new .timestampRole) × SameKeys (old .snapshotRole) (new .snapshotRole))
+-- "Timestamp or snapshot keys are rotated"
+abbrev pub Rotation : Root → Root → Type 0
+Rotation old new = Rotated (old .timestampRole) (new .timestampRole) ⊎ Rotated (old .snapshotRole) (new .snapshotRole)
 
 -- the same, or targets keys
-abbrev pub OtherTargetsKeys : Root → Root → Type 0
-OtherTargetsKeys old new =
-    ¬ (SameKeys (old .timestampRole) (new .timestampRole) × SameKeys (old .snapshotRole) (new .snapshotRole)
-    × SameKeys (old .targetsRole) (new .targetsRole))
+abbrev pub AnyRotation : Root → Root → Type 0
+AnyRotation old new = Rotation old new ⊎ Rotated (old .targetsRole) (new .targetsRole)
 
 -- a root that rotates timestamp or snapshot keys was accepted
 abbrev pub Rotates : Event → Type 0
-Rotates = Replaces OtherKeys
+Rotates = Replaces Rotation
 
 -- "Held is the one of its role trusted last, unless a later accepted root dropped it": x became trusted, and nothing that ends its
 -- being held came after
@@ -235,11 +233,11 @@ pub record Demand3 (h : History) : Type 0 where
   -- The state at its end holds what the history says is held.
   pub heldRoot : (r : Root) → (end h .root ≡ some r) ↔ LastOf (happened h) (aRoot r) (Another aRoot)
   pub heldTimestamp : (t : Timestamp) → (end h .timestamp ≡ some t)
-      ↔ LastOf (happened h) (aTimestamp t) (AnotherOr aTimestamp OtherKeys)
+      ↔ LastOf (happened h) (aTimestamp t) (AnotherOr aTimestamp Rotation)
   pub heldSnapshot : (n : Snapshot) → (end h .snapshot ≡ some n)
-      ↔ LastOf (happened h) (aSnapshot n) (AnotherOr aSnapshot OtherKeys)
+      ↔ LastOf (happened h) (aSnapshot n) (AnotherOr aSnapshot Rotation)
   pub heldTargets : (g : Targets) → (end h .targets ≡ some g)
-      ↔ LastOf (happened h) (aTargets g) (AnotherOr aTargets OtherTargetsKeys)
+      ↔ LastOf (happened h) (aTargets g) (AnotherOr aTargets AnyRotation)
   -- A1: every key of a root that became trusted has the digest of its text as its keyid; so a keyid stands for one key in all of them,
   -- unless two texts have one digest.
   pub keyids : (e : Event) (r : Root) → List·Memᴰ e (happened h) → BecomesTrusted e (aRoot r) → (k : Key) → List·Memᴰ k (r .keys)

@@ -1,6 +1,6 @@
 -- The paper's words as statements, apart from the tests that decide them.
 use mathlib.Core.Path.{_≡_}
-use mathlib.Core.Logic.{_↔_}
+use mathlib.Core.Logic.{_↔_, _⊎_}
 use mathlib.Core.Option.{some}
 use mathlib.Core.List.{List, [], _∷_, List·Memᴰ}
 use Prim.Native.Nat.{ℕ, _≤_}
@@ -67,6 +67,10 @@ pub record Collision : Type 0 where
 -- the role has the same set of keyids in both
 abbrev pub SameKeys : Role → Role → Type 0
 SameKeys old new = (k : Bytes) → List·Memᴰ k (old .keyids) ↔ List·Memᴰ k (new .keyids)
+
+-- A5: "a role is rotated when its set of keyids or its threshold differs"
+abbrev pub Rotated : Role → Role → Type 0
+Rotated old new = ¬ SameKeys old new ⊎ ¬ (old .threshold ≡ new .threshold)
 
 -- ## Dates
 

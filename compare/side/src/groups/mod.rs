@@ -16,6 +16,7 @@ mod mutants;
 mod named;
 pub mod names;
 mod published;
+mod rotation;
 mod search;
 mod signed;
 mod text;
@@ -58,6 +59,7 @@ pub fn all() -> Vec<Group> {
         limits::groups(),
         keyids::groups(),
         search::groups(),
+        rotation::groups(),
         named::groups(),
         published::groups(),
         signed::groups(),

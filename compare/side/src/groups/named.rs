@@ -40,7 +40,7 @@ pub fn groups() -> Vec<Group> {
 }
 
 fn by_name() -> Cases {
-    let cases: [fn(&mut Shelf); 19] = [
+    let cases: [fn(&mut Shelf); 20] = [
         two_valid_entries_of_one_key_count_1,
         held_root_4,
         no_next_root_after_the_highest,
@@ -57,6 +57,7 @@ fn by_name() -> Cases {
         blank_state,
         new_histories_and_cycles,
         rotations,
+        equal_sets_and_thresholds_1_and_2,
         nothing_falls,
         current_records,
         lowest_number,
@@ -116,6 +117,12 @@ impl Shelf {
             &[1],
             answer,
         );
+    }
+
+    /// A timestamp that lists snapshot 5, with a good signature of each of these keys.
+    fn timestamp_by(&mut self, version: u64, keys: &[usize], answer: &str) {
+        let row = vec![1; keys.len()];
+        self.timestamp_with(Header::new(version, LATER), Listed::version(5), keys, &row, answer);
     }
 
     fn timestamp_with(&mut self, header: Header, snapshot: Listed, keys: &[usize], row: &[u8], answer: &str) {
@@ -509,17 +516,20 @@ fn rotations(shelf: &mut Shelf) {
     let none = "timestamp=- snapshot=- targets=-";
     let without_targets = "timestamp=3 snapshot=5 targets=-";
     type Change = fn(&mut Root);
-    let changes: [(Change, &str); 13] = [
+    let changes: [(Change, &str); 16] = [
         (|_| (), all),
         (|root| root.root = Role::new([2, 6], 2), all),
         (|root| root.timestamp.keys = vec![3], none),
         (|root| root.timestamp.keys = vec![3, 4, 5], none),
         (|root| root.timestamp.keys = vec![4, 3], all),
-        (|root| root.timestamp.threshold = 2, all),
+        (|root| root.timestamp.threshold = 2, none),
         (|root| root.snapshot.keys = vec![5, 7], none),
         (|root| root.snapshot.keys = vec![6, 5], all),
+        (|root| root.snapshot.threshold = 2, none),
         (|root| root.targets.keys = vec![7, 6], without_targets),
-        (|root| root.targets = Role::new([8, 7], 2), all),
+        (|root| root.targets.keys = vec![8, 7], all),
+        (|root| root.targets.threshold = 2, without_targets),
+        (|root| root.targets = Role::new([8, 7], 2), without_targets),
         (
             |root| {
                 root.targets.keys = vec![1];
@@ -551,6 +561,37 @@ fn rotations(shelf: &mut Shelf) {
     }
     shelf.snapshot(1, &[("targets.json", 1)], "0");
     shelf.targets(1, "0 root=3 timestamp=1 snapshot=1 targets=1");
+}
+
+/// A5: "We raised the timestamp threshold from one key to two after a laptop was stolen, and controllers kept a timestamp that
+/// only the stolen key had signed."
+fn equal_sets_and_thresholds_1_and_2(shelf: &mut Shelf) {
+    const DESK: usize = 3;
+    const LAPTOP: usize = 4;
+    shelf.complete();
+    shelf.timestamp_by(999, &[LAPTOP], "0 root=1 timestamp=999 snapshot=5 targets=7");
+    shelf.timestamp_by(4, &[DESK], "11");
+
+    // Raised: what the one key signed is gone, and it signs nothing more by itself.
+    let mut root = Root::new(2, LATER);
+    root.timestamp = Role::new([DESK, LAPTOP], 2);
+    shelf.root(&root, &[1], &[1], &[1], "0 root=2 timestamp=- snapshot=- targets=-");
+    shelf.find(b"image", refused(6));
+    shelf.timestamp_by(999, &[LAPTOP], "9");
+    shelf.timestamp_by(999, &[LAPTOP, LAPTOP], "9");
+    shelf.timestamp_by(4, &[DESK], "9");
+    shelf.timestamp_by(4, &[DESK, LAPTOP], "0 root=2 timestamp=4 snapshot=- targets=-");
+    shelf.snapshot(5, &[("targets.json", 7)], "0");
+    shelf.targets(7, "0 root=2 timestamp=4 snapshot=5 targets=7");
+    shelf.find(b"image", image_found());
+
+    // The same threshold again keeps everything, and a lowered one drops as a raised one does.
+    root.header.version = 3;
+    shelf.root(&root, &[1], &[1], &[1], "0 root=3 timestamp=4 snapshot=5 targets=7");
+    root.header.version = 4;
+    root.timestamp.threshold = 1;
+    shelf.root(&root, &[1], &[1], &[1], "0 root=4 timestamp=- snapshot=- targets=-");
+    shelf.timestamp_by(1, &[DESK], "0 root=4 timestamp=1 snapshot=- targets=-");
 }
 
 fn nothing_falls(shelf: &mut Shelf) {

@@ -134,7 +134,7 @@ impl Publisher {
         keyids.all(|keyid| NUMBERS.contains_key(&**keyid))
     }
 
-    /// The next root: of each role the keys may stay, or be rotated in one of many ways.
+    /// The next root: each role may stay, or be changed in one of many ways.
     pub fn next_root(&mut self, random: &mut Random) -> Root {
         let mut root = self.root.clone();
         root.header = Header::new(root.header.version + 1, self.root_expiry(random));
@@ -485,9 +485,11 @@ pub fn root_answer(state: &State, held: &Root, new: &Root) -> Option<String> {
     if new.header.version > HIGHEST_VERSION {
         return None;
     }
-    let set = |role: &Role| role.keys.iter().copied().collect::<BTreeSet<_>>();
-    let drops_all = set(&held.timestamp) != set(&new.timestamp) || set(&held.snapshot) != set(&new.snapshot);
-    let drops_targets = drops_all || set(&held.targets) != set(&new.targets);
+    // "a role is rotated when its set of keyids or its threshold differs"
+    let meant = |role: &Role| (role.keys.iter().copied().collect::<BTreeSet<_>>(), role.threshold);
+    let rotated = |role: fn(&Root) -> &Role| meant(role(held)) != meant(role(new));
+    let drops_all = rotated(|root| &root.timestamp) || rotated(|root| &root.snapshot);
+    let drops_targets = drops_all || rotated(|root| &root.targets);
     let [_, timestamp, snapshot, targets] = versions(state);
     let kept = |version: Option<u64>, drops: bool| version.filter(|_| !drops);
     let versions = [

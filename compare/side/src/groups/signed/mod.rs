@@ -79,7 +79,7 @@ fn shelf(signer: Signer, seed: u64) -> Cases {
         held: None,
         inspected: BTreeSet::new(),
     };
-    let parts: [fn(&mut Shelf); 10] = [
+    let parts: [fn(&mut Shelf); 11] = [
         first_root,
         first_release,
         root_that_rotates_timestamp_keys,
@@ -90,6 +90,7 @@ fn shelf(signer: Signer, seed: u64) -> Cases {
         release_listed_whole,
         old_files_and_lowered_versions,
         expired_timestamp,
+        root_with_a_lower_threshold,
     ];
     for part in parts {
         part(&mut shelf);
@@ -395,7 +396,7 @@ fn first_release(shelf: &mut Shelf) {
     shelf.find_all(&honest);
 }
 
-/// Root 2: "Timestamp or snapshot keys are rotated when the role's set of keyids differs".
+/// Root 2: "Timestamp or snapshot keys are rotated", by another set of keyids.
 fn root_that_rotates_timestamp_keys(shelf: &mut Shelf) {
     let held = |number: u8| format!("{number} root=1 timestamp=1 snapshot=1 targets=1 time={NOW}");
     let second = root(2);
@@ -618,6 +619,28 @@ fn expired_timestamp(shelf: &mut Shelf) {
         &format!("0 root=4 timestamp=6 snapshot=4 targets=3 time={A_WEEK_LATER}"),
     );
     shelf.find_all(&targets);
+}
+
+/// Root 5 has the same keys as root 4, but one that signs targets is enough (A5): the targets record alone is dropped.
+fn root_with_a_lower_threshold(shelf: &mut Shelf) {
+    let held =
+        |root: u64, targets: &str| format!("root={root} timestamp=6 snapshot=4 targets={targets} time={A_WEEK_LATER}");
+    let one_key = shelf.targets_file(3, &[by(TARGETS_B)]);
+    shelf.targets(&one_key, &format!("9 {}", held(4, "3")));
+
+    let mut fifth = root(5);
+    fifth.targets.threshold = 1;
+    let file = shelf.root_file(&fifth, &[by(ROOT_A), by(ROOT_C)]);
+    shelf.root(&fifth, &file, &format!("0 {}", held(5, "-")));
+    let both_keys = shelf.targets_file(3, &[by(TARGETS_B), by(TARGETS_A)]);
+    shelf.find_refused(&both_keys, IMAGES[0].0, 6);
+    let forged_file = shelf.targets_file(3, &[forged(TARGETS_B)]);
+    shelf.targets(&forged_file, &format!("9 {}", held(5, "-")));
+    shelf.targets(&one_key, &format!("0 {}", held(5, "3")));
+    shelf.find_all(&one_key);
+    // The threshold is that of targets: their key still signs nothing else.
+    let file = shelf.timestamp_file(&timestamp(7, Listed::version(4)), &[by(TARGETS_B)]);
+    shelf.timestamp(&file, &format!("9 {}", held(5, "3")));
 }
 
 #[cfg(test)]

@@ -484,7 +484,14 @@ fn meddles_after(mistake: &str) -> bool {
         "targets-rotation-missed",
         "targets-rotation-drops-all",
         "root-rotation-drops-all",
-        "threshold-is-rotation",
+        "root-threshold-drops-all",
+        "threshold-is-no-rotation",
+        "snapshot-threshold-is-no-rotation",
+        "targets-threshold-is-no-rotation",
+        "targets-threshold-drops-all",
+        "lowered-threshold-is-no-rotation",
+        "added-key-is-no-rotation",
+        "removed-key-is-no-rotation",
         "first-roles-believed",
         "old-keys-kept",
         "old-role-keys-count",
@@ -551,8 +558,12 @@ fn meddle_after(mistake: &str, script: &mut Script, before: &State, call: &Call)
     }
 }
 
+fn is_rotated(old: &Role, new: &Role) -> bool {
+    old.keyids != new.keyids || old.threshold != new.threshold
+}
+
 fn meddle_after_root(mistake: &str, state: &mut State, before: &State, (old, new): (&Root, &Root)) {
-    let differs = |role: fn(&Root) -> &Role| role(old).keyids != role(new).keyids;
+    let differs = |role: fn(&Root) -> &Role| is_rotated(role(old), role(new));
     let rotates = differs(|root| &root.timestamp) || differs(|root| &root.snapshot);
     let rotates_targets = differs(|root| &root.targets);
     let drop_all = |state: &mut State| {
@@ -565,6 +576,15 @@ fn meddle_after_root(mistake: &str, state: &mut State, before: &State, (old, new
         state.snapshot = before.snapshot.clone();
         state.targets = before.targets.clone();
     };
+    // What is held if a role is rotated by another rule.
+    let mut rotate_by = |rotated: fn(&str, &Role, &Role) -> bool| {
+        let all =
+            rotated("timestamp", &old.timestamp, &new.timestamp) || rotated("snapshot", &old.snapshot, &new.snapshot);
+        let targets = all || rotated("targets", &old.targets, &new.targets);
+        state.timestamp = before.timestamp.clone().filter(|_| !all);
+        state.snapshot = before.snapshot.clone().filter(|_| !all);
+        state.targets = before.targets.clone().filter(|_| !targets);
+    };
     match mistake {
         "rotation-missed" if rotates => keep_all(state),
         "snapshot-rotation-missed" if rotates && !differs(|root| &root.timestamp) => keep_all(state),
@@ -573,7 +593,26 @@ fn meddle_after_root(mistake: &str, state: &mut State, before: &State, (old, new
         "targets-rotation-missed" if rotates_targets && !rotates => state.targets = before.targets.clone(),
         "targets-rotation-drops-all" if rotates_targets => drop_all(state),
         "root-rotation-drops-all" if differs(|root| &root.root) => drop_all(state),
-        "threshold-is-rotation" if old.timestamp.threshold != new.timestamp.threshold => drop_all(state),
+        "root-threshold-drops-all" if old.root.threshold != new.root.threshold => drop_all(state),
+        "targets-threshold-drops-all" if old.targets.threshold != new.targets.threshold => drop_all(state),
+        "threshold-is-no-rotation" => rotate_by(|_, old, new| old.keyids != new.keyids),
+        "snapshot-threshold-is-no-rotation" => rotate_by(|role, old, new| match role {
+            "snapshot" => old.keyids != new.keyids,
+            _ => is_rotated(old, new),
+        }),
+        "targets-threshold-is-no-rotation" => rotate_by(|role, old, new| match role {
+            "targets" => old.keyids != new.keyids,
+            _ => is_rotated(old, new),
+        }),
+        "lowered-threshold-is-no-rotation" => {
+            rotate_by(|_, old, new| old.keyids != new.keyids || old.threshold < new.threshold);
+        }
+        "added-key-is-no-rotation" => {
+            rotate_by(|_, old, new| !old.keyids.is_subset(&new.keyids) || old.threshold != new.threshold);
+        }
+        "removed-key-is-no-rotation" => {
+            rotate_by(|_, old, new| !old.keyids.is_superset(&new.keyids) || old.threshold != new.threshold);
+        }
         "root-sets-time" => state.time = new.header.expires - 1,
         "first-roles-believed" => {
             if let Some(held) = &mut state.root {
