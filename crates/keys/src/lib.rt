@@ -10,7 +10,7 @@ ghost use lib.Dec.{eqb, ltb};
 ghost use Rattle.base.specs.Bytes.{same};
 ghost use Rattle.rules.specs.Forms.{isIn};
 ghost use Rattle.rules.specs.Conditions.{any, badRow, signed, tooFew, keyOf};
-ghost use Rattle.rules.specs.Conditions.{within as withinOf, rotated as rotatedOf};
+ghost use Rattle.rules.specs.Conditions.{within as withinOf, otherKeys, rotated as rotatedOf};
 ghost use Rattle.records.specs.View.{viewId, viewEntries, viewTable, viewRole, has};
 ghost use Rattle.keys.specs.Signers.{Marks, signsAt, hasId, Asked};
 
@@ -193,16 +193,28 @@ fn within(a: KeyTable, role: Role, b: KeyTable, other: Role) -> bool
     true
 }
 
-pub fn rotated(a: KeyTable, old: Role, b: KeyTable, new: Role) -> bool
-    ensures { λ r. ⌜ r ≡ rotatedOf (viewRole a old) (viewRole b new) ⌝ }
+fn other_keys(a: KeyTable, old: Role, b: KeyTable, new: Role) -> bool
+    ensures { λ r. ⌜ r ≡ otherKeys (viewRole a old) (viewRole b new) ⌝ }
 {
     if !within(a, old, b, new) {
         return true;
     }
-    if !within(b, new, a, old) {
+    !within(b, new, a, old)
+}
+
+fn other_threshold(old: Role, new: Role) -> bool
+    ensures { λ r. ⌜ r ≡ not (eqb (old .threshold) (new .threshold)) ⌝ }
+{
+    old.threshold != new.threshold
+}
+
+pub fn rotated(a: KeyTable, old: Role, b: KeyTable, new: Role) -> bool
+    ensures { λ r. ⌜ r ≡ rotatedOf (viewRole a old) (viewRole b new) ⌝ }
+{
+    if other_keys(a, old, b, new) {
         return true;
     }
-    old.threshold != new.threshold
+    other_threshold(old, new)
 }
 
 // ---- A key asked for
