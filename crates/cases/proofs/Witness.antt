@@ -30,7 +30,7 @@ use Rattle.rules.proofs.TableLaws.{one-held, judged-is}
 use Rattle.rules.proofs.NextLaws.{next-trusting, next-refused, next-same, says-what}
 use Rattle.rules.proofs.ExactlyLaws.{next-cycle, install-after}
 use Rattle.history.proofs.Demand3.{apart-at, demand3}
-use Rattle.cases.proofs.WitnessFiles.{a, b, only, pair, root1Text, root2Text, root3Text, root4Text, root1, root2, root3, root4, versionText, fullText, versionOnly, full, timestampText, timestampAt, snapshotText, targetsText, targetsAt, imageText, anImage, plainNames, moreNames, lowNames, fullNames, snapshotDigest, low, complete, targets-digest, snapshot-digest, Says, readings}
+use Rattle.cases.proofs.WitnessFiles.{a, b, only, pair, rootText, rootAt, versionText, fullText, versionOnly, full, timestampText, timestampAt, snapshotText, targetsText, targetsAt, imageText, anImage, plainNames, moreNames, lowNames, fullNames, snapshotDigest, low, complete, targets-digest, snapshot-digest, Says, readings}
 
 -- ## The calls
 
@@ -54,7 +54,7 @@ abbrev pub offer : Bytes → Row → FileOffer
 offer file row = record { file = file; row = row }
 
 abbrev pub theInstall : Install
-theInstall = record { file = root1Text; row = byA; start = pos 1000 }
+theInstall = record { file = rootText "1" "1" k; row = byA; start = pos 1000 }
 
 abbrev pub theCalls : List Call
 theCalls =
@@ -67,11 +67,11 @@ theCalls =
     ∷ newSnapshot (offer (snapshotText "7" moreNames) byA)
     ∷ newTargets (offer (targetsText "3" []) byA)
     -- a root that changes the targets keys alone: the targets have to be signed anew
-    ∷ aNewRoot root2Text
+    ∷ aNewRoot (rootText "2" "1" l)
     ∷ newTargets (offer (targetsText "3" imageText) byA)
     ∷ newTargets (offer (targetsText "3" imageText) byB)
     -- a root that asks for two timestamp keys in place of one: what one key signed is believed no more, and lower versions come after it
-    ∷ aNewRoot root3Text
+    ∷ aNewRoot (rootText "3" "2" l)
     ∷ aNewTimestamp (timestampText "6" (versionText "7")) byA
     ∷ aNewTimestamp (timestampText "1" (versionText "2")) byBoth
     ∷ newSnapshot (offer (snapshotText "2" lowNames) byA)
@@ -199,9 +199,9 @@ kept file version = record { version = version; expires = pos 1893456000; digest
 abbrev pub held1 : Targets
 held1 = kept (targetsText "1" imageText) 1
 
-chain : Chain (at root1 none none none (pos 1000)) theCalls
+chain : Chain (at (rootAt 1 1 a) none none none (pos 1000)) theCalls
     (0 ∷ 0 ∷ 0 ∷ 0 ∷ 0 ∷ 0 ∷ 0 ∷ 0 ∷ 9 ∷ 0 ∷ 0 ∷ 9 ∷ 0 ∷ 0 ∷ 0 ∷ 0 ∷ [])
-    (at root3 (some (timestampAt 1 (versionOnly 2))) (some low) (some held1) (pos 1000))
+    (at (rootAt 3 2 b) (some (timestampAt 1 (versionOnly 2))) (some low) (some held1) (pos 1000))
 unfolding tables digitOf allHex isHex undo withRoot withTimestamp withSnapshot withTargets keepTargets
 chain =
     step (timestamp-goes _ (readings .timestamp5) refl)
@@ -211,10 +211,10 @@ chain =
     (step (timestamp-goes _ (readings .timestamp6) refl)
     (step (snapshot-goes _ (readings .snapshot7More) refl)
     (step (targets-goes _ (readings .empty3) refl)
-    (step (root-goes root1 _ refl (readings .root2) refl)
+    (step (root-goes (rootAt 1 1 a) _ refl (readings .root2) refl)
     (step (targets-refused _ (readings .targets3) refl)
     (step (targets-goes _ (readings .targets3) refl)
-    (step (root-goes root2 _ refl (readings .root3) refl)
+    (step (root-goes (rootAt 2 1 b) _ refl (readings .root3) refl)
     (step (timestamp-refused _ (readings .timestamp6) refl)
     (step (timestamp-goes _ (readings .timestamp1) refl)
     (step (snapshot-goes _ (readings .snapshot2) refl)
@@ -229,9 +229,9 @@ install-answers = judged-is (installTable theInstall) (readings .root1)
 abbrev pub theHistory : History
 theHistory = record { install = theInstall; accepted = install-answers; calls = theCalls }
 
-installed-is : installed theInstall ≡ at root1 none none none (pos 1000)
+installed-is : installed theInstall ≡ at (rootAt 1 1 a) none none none (pos 1000)
 unfolding rootAlone
-installed-is = install-after theInstall root1 (a ∷ b ∷ []) (readings .root1) install-answers
+installed-is = install-after theInstall (rootAt 1 1 a) (a ∷ b ∷ []) (readings .root1) install-answers
 
 -- two calls are refused: targets signed by a key that the role has no longer, and a timestamp signed by one key where two are asked for
 pub answered : answersOf (installed theInstall) theCalls ≡ 0 ∷ 0 ∷ 0 ∷ 0 ∷ 0 ∷ 0 ∷ 0 ∷ 0 ∷ 9 ∷ 0 ∷ 0 ∷ 9 ∷ 0 ∷ 0 ∷ 0 ∷ 0 ∷ []
@@ -239,7 +239,7 @@ answered = ap (λ (s : State). answersOf s theCalls) installed-is ∙ chain-answ
 
 -- what is held in the end
 abbrev pub theEnd : State
-theEnd = at root3 (some (timestampAt 1 (versionOnly 2))) (some low) (some held1) (pos 1000)
+theEnd = at (rootAt 3 2 b) (some (timestampAt 1 (versionOnly 2))) (some low) (some held1) (pos 1000)
 
 pub ends : end theHistory ≡ theEnd
 unfolding end
@@ -253,7 +253,7 @@ timestamp6 = aNewTimestamp (timestampText "6" (versionText "7")) byA
 abbrev timestamp1 : Call
 timestamp1 = aNewTimestamp (timestampText "1" (versionText "2")) byBoth
 
-accepted-at : (before : List Call) (c : Call) → answer (run (at root1 none none none (pos 1000)) before) c ≡ 0
+accepted-at : (before : List Call) (c : Call) → answer (run (at (rootAt 1 1 a) none none none (pos 1000)) before) c ≡ 0
     → answer (run (installed theInstall) before) c ≡ 0
 accepted-at before c e = ap (λ (s : State). answer (run s before) c) installed-is ∙ e
 
@@ -306,9 +306,9 @@ plan =
     record {
       roots =
           record {
-            between = aNewRoot root3Text ∷ [];
-            offer = record { file = root4Text; heldRow = byA; ownRow = byA };
-            file = root4;
+            between = aNewRoot (rootText "3" "2" l) ∷ [];
+            offer = record { file = rootText "4" "2" l; heldRow = byA; ownRow = byA };
+            file = rootAt 4 2 b;
             entries = both;
             reads = readings .root4;
           }
@@ -341,13 +341,13 @@ plan =
 
 -- the states that its calls are given
 abbrev pub before₁ : State
-before₁ = at root4 (some (timestampAt 1 (versionOnly 2))) (some low) (some held1) (pos 2000)
+before₁ = at (rootAt 4 2 b) (some (timestampAt 1 (versionOnly 2))) (some low) (some held1) (pos 2000)
 
 abbrev pub before₂ : State
-before₂ = at root4 (some (timestampAt 2 (full snapshotDigest 699 3))) (some low) (some held1) (pos 2000)
+before₂ = at (rootAt 4 2 b) (some (timestampAt 2 (full snapshotDigest 699 3))) (some low) (some held1) (pos 2000)
 
 abbrev pub before₃ : State
-before₃ = at root4 (some (timestampAt 2 (full snapshotDigest 699 3))) (some complete) (some held1) (pos 3000)
+before₃ = at (rootAt 4 2 b) (some (timestampAt 2 (full snapshotDigest 699 3))) (some complete) (some held1) (pos 3000)
 
 cycle-goes : {s : State} {t : ℤ} → Goes s (newCycle t) 0 (withStart s t)
 cycle-goes {s} {t} = let w = next-cycle s t in record { answers = w .0; becomes = w .1 }
@@ -356,13 +356,13 @@ state-goes : {s : State} → Goes s askState 0 s
 unfolding answer offered started
 state-goes {s} = record { answers = refl; becomes = next-same s askState refl refl }
 
-root-again : Goes theEnd (aNewRoot root3Text) 11 theEnd
+root-again : Goes theEnd (aNewRoot (rootText "3" "2" l)) 11 theEnd
 unfolding tables
-root-again = root-refused root3 (readings .root3) refl
+root-again = root-refused (rootAt 3 2 b) (readings .root3) refl
 
 at-timestamp : atTimestamp theEnd plan ≡ before₁
 unfolding tables run afterRoots withRoot withStart
-at-timestamp = chain-run (step root-again (step (root-goes root3 root4 refl (readings .root4) refl) (step cycle-goes stop)))
+at-timestamp = chain-run (step root-again (step (root-goes (rootAt 3 2 b) (rootAt 4 2 b) refl (readings .root4) refl) (step cycle-goes stop)))
 
 at-snapshot : atSnapshot theEnd plan ≡ before₂
 unfolding tables run withTimestamp
@@ -413,12 +413,12 @@ enough-both : Enough (pair 2) both byBoth
 unfolding tables different
 enough-both = passes-enough (pair 2) both byBoth (different-true both .0 refl) refl
 
-fresh : (start : ℤ) → expired (pos 1893456000) start ≡ false → Fresh root4 plan start
+fresh : (start : ℤ) → expired (pos 1893456000) start ≡ false → Fresh (rootAt 4 2 b) plan start
 fresh start e =
     let f = fresh-exactly (pos 1893456000) start .0 e in
     record { ofRoot = f; ofTimestamp = f; ofSnapshot = f; ofTargets = f }
 
-honest-end : Honest theEnd root3 plan
+honest-end : Honest theEnd (rootAt 3 2 b) plan
 unfolding tables offered lastRoot
 honest-end =
     record {
@@ -443,17 +443,17 @@ honest-end =
       snapshotMatches = matches-exactly _ _ _ .0 (refl, not-other _ _ snapshot-digest);
       targetsVersion = refl;
       targetsMatches = matches-exactly _ _ _ .0 (refl, not-other _ _ targets-digest);
-      freshTimestamp = subst (λ (s : State). Fresh root4 plan (s .start)) (sym at-timestamp) (fresh (pos 2000) refl);
-      freshSnapshot = subst (λ (s : State). Fresh root4 plan (s .start)) (sym at-snapshot) (fresh (pos 2000) refl);
-      freshTargets = subst (λ (s : State). Fresh root4 plan (s .start)) (sym at-targets) (fresh (pos 3000) refl);
+      freshTimestamp = subst (λ (s : State). Fresh (rootAt 4 2 b) plan (s .start)) (sym at-timestamp) (fresh (pos 2000) refl);
+      freshSnapshot = subst (λ (s : State). Fresh (rootAt 4 2 b) plan (s .start)) (sym at-snapshot) (fresh (pos 2000) refl);
+      freshTargets = subst (λ (s : State). Fresh (rootAt 4 2 b) plan (s .start)) (sym at-targets) (fresh (pos 3000) refl);
     }
 
 -- so it gets through
-pub honest : Honest (end theHistory) root3 plan
-honest = subst (λ (s : State). Honest s root3 plan) (sym ends) honest-end
+pub honest : Honest (end theHistory) (rootAt 3 2 b) plan
+honest = subst (λ (s : State). Honest s (rootAt 3 2 b) plan) (sym ends) honest-end
 
-pub gets-through : Through (end theHistory) root3 plan
+pub gets-through : Through (end theHistory) (rootAt 3 2 b) plan
 gets-through =
     let p = demand3 theHistory .publisher in
-    let held : p .0 ≡ root3 = one-held (p .1) (ap (λ (s : State). s .root) ends) in
+    let held : p .0 ≡ rootAt 3 2 b = one-held (p .1) (ap (λ (s : State). s .root) ends) in
     subst (λ (r : Root). Honest (end theHistory) r plan → Through (end theHistory) r plan) held (p .2 plan) honest

@@ -53,12 +53,17 @@ abbrev pub fileText : Bytes → Bytes
 fileText body =
     bytes "{\"signatures\":[" ++ entryText k ++ bytes "," ++ entryText l ++ bytes "],\"signed\":{" ++ body ++ bytes "}}"
 
--- a role of one key, and one of both with this threshold
-abbrev pub onlyText : Bytes → Bytes
-onlyText keyid = roleText (quoted keyid) "1"
-
-abbrev pub pairText : String → Bytes
-pairText threshold = roleText (quoted k ++ bytes "," ++ quoted l) threshold
+-- a root by its version, the threshold of its timestamp role, which is of both keys, and its targets key; the other roles are of k
+abbrev pub rootText : String → String → Bytes → Bytes
+rootText version threshold targetsKey =
+    fileText
+    (bytes "\"_type\":\"root\",\"consistent_snapshot\":false,\"expires\":\"2030-01-01T00:00:00Z\",\"keys\":{"
+    ++ keyText k m ++ bytes "," ++ keyText l n
+    ++ bytes "},\"roles\":{\"root\":" ++ roleText (quoted k) "1"
+    ++ bytes ",\"snapshot\":" ++ roleText (quoted k) "1"
+    ++ bytes ",\"targets\":" ++ roleText (quoted targetsKey) "1"
+    ++ bytes ",\"timestamp\":" ++ roleText (quoted k ++ bytes "," ++ quoted l) threshold
+    ++ bytes "},\"spec_version\":\"1\",\"version\":" ++ bytes version)
 
 abbrev pub only : Bytes → Role
 only k = record { keyids = k ∷ []; threshold = 1 }
@@ -66,31 +71,19 @@ only k = record { keyids = k ∷ []; threshold = 1 }
 abbrev pub pair : ℕ → Role
 pair threshold = record { keyids = a ∷ b ∷ []; threshold = threshold }
 
--- a root by its version and its timestamp, snapshot and targets roles; its own is of k
-abbrev pub rootText : String → Bytes → Bytes → Bytes → Bytes
-rootText version timestampRole snapshotRole targetsRole =
-    fileText
-    (bytes "\"_type\":\"root\",\"consistent_snapshot\":false,\"expires\":\"2030-01-01T00:00:00Z\",\"keys\":{"
-    ++ keyText k m ++ bytes "," ++ keyText l n
-    ++ bytes "},\"roles\":{\"root\":" ++ onlyText k
-    ++ bytes ",\"snapshot\":" ++ snapshotRole
-    ++ bytes ",\"targets\":" ++ targetsRole
-    ++ bytes ",\"timestamp\":" ++ timestampRole
-    ++ bytes "},\"spec_version\":\"1\",\"version\":" ++ bytes version)
-
 abbrev pub theKeys : List Key
 theKeys = record { keyid = a; public = publicA } ∷ record { keyid = b; public = publicB } ∷ []
 
-abbrev pub rootAt : ℕ → Role → Role → Role → Root
-rootAt version timestampRole snapshotRole targetsRole =
+abbrev pub rootAt : ℕ → ℕ → Bytes → Root
+rootAt version threshold targetsKey =
     record {
       version = version;
       expires = pos 1893456000;
       keys = theKeys;
       rootRole = only a;
-      timestampRole = timestampRole;
-      snapshotRole = snapshotRole;
-      targetsRole = targetsRole;
+      timestampRole = pair threshold;
+      snapshotRole = only a;
+      targetsRole = only targetsKey;
     }
 
 -- what a file lists: a version alone, or with digest and length
@@ -149,31 +142,6 @@ anImage = record { path = bytes "f"; length = 5; digest = d }
 
 -- ## Files
 
--- the first root; one with another targets key; one with another threshold of the timestamp role; the same again
-abbrev pub root1Text : Bytes
-root1Text = rootText "1" (pairText "1") (onlyText k) (onlyText k)
-
-abbrev pub root2Text : Bytes
-root2Text = rootText "2" (pairText "1") (onlyText k) (onlyText l)
-
-abbrev pub root3Text : Bytes
-root3Text = rootText "3" (pairText "2") (onlyText k) (onlyText l)
-
-abbrev pub root4Text : Bytes
-root4Text = rootText "4" (pairText "2") (onlyText k) (onlyText l)
-
-abbrev pub root1 : Root
-root1 = rootAt 1 (pair 1) (only a) (only a)
-
-abbrev pub root2 : Root
-root2 = rootAt 2 (pair 1) (only a) (only b)
-
-abbrev pub root3 : Root
-root3 = rootAt 3 (pair 2) (only a) (only b)
-
-abbrev pub root4 : Root
-root4 = rootAt 4 (pair 2) (only a) (only b)
-
 abbrev pub plainNames : Bytes
 plainNames = nameText "a.json" (versionText "1") ++ bytes "," ++ nameText "targets.json" (versionText "3")
 
@@ -220,8 +188,8 @@ unfolding digests
 snapshot-digest = refl
 
 -- what the roots say, where their key table has the keyids of its keys
-abbrev rootSays : ℕ → Role → Role → Role → File records.Root
-rootSays version timestampRole snapshotRole targetsRole =
+abbrev rootSays : ℕ → ℕ → Bytes → File records.Root
+rootSays version threshold targetsKey =
     record {
       specVersion = bytes "1";
       version = version;
@@ -230,9 +198,9 @@ rootSays version timestampRole snapshotRole targetsRole =
         consistentSnapshot = false;
         keys = theKeys;
         rootRole = only a;
-        timestampRole = timestampRole;
-        snapshotRole = snapshotRole;
-        targetsRole = targetsRole;
+        timestampRole = pair threshold;
+        snapshotRole = only a;
+        targetsRole = only targetsKey;
       };
     }
 
@@ -247,10 +215,10 @@ abbrev pub Says : {A : Type 0} → (Bytes → Read A) → Bytes → A → Type 0
 Says reading text file = reading text ≡ says file (a ∷ b ∷ [])
 
 pub record Readings : Type 0 where
-  pub root1 : Says rootIn root1Text root1
-  pub root2 : Says rootIn root2Text root2
-  pub root3 : Says rootIn root3Text root3
-  pub root4 : Says rootIn root4Text root4
+  pub root1 : Says rootIn (rootText "1" "1" k) (rootAt 1 1 a)
+  pub root2 : Says rootIn (rootText "2" "1" l) (rootAt 2 1 b)
+  pub root3 : Says rootIn (rootText "3" "2" l) (rootAt 3 2 b)
+  pub root4 : Says rootIn (rootText "4" "2" l) (rootAt 4 2 b)
   pub timestamp5 : Says timestampIn (timestampText "5" (versionText "7")) (timestampAt 5 (versionOnly 7))
   pub timestamp6 : Says timestampIn (timestampText "6" (versionText "7")) (timestampAt 6 (versionOnly 7))
   pub timestamp1 : Says timestampIn (timestampText "1" (versionText "2")) (timestampAt 1 (versionOnly 2))
@@ -268,10 +236,10 @@ pub readings : Readings
 unfolding forms filter keepRole keepRoot keepTimestamp keepSnapshot kept rootIn timestampIn snapshotIn targetsIn
 readings =
     record {
-      root1 = ap (whenOwn (rootSays 1 (pair 1) (only a) (only a))) own;
-      root2 = ap (whenOwn (rootSays 2 (pair 1) (only a) (only b))) own;
-      root3 = ap (whenOwn (rootSays 3 (pair 2) (only a) (only b))) own;
-      root4 = ap (whenOwn (rootSays 4 (pair 2) (only a) (only b))) own;
+      root1 = ap (whenOwn (rootSays 1 1 a)) own;
+      root2 = ap (whenOwn (rootSays 2 1 b)) own;
+      root3 = ap (whenOwn (rootSays 3 2 b)) own;
+      root4 = ap (whenOwn (rootSays 4 2 b)) own;
       timestamp5 = refl;
       timestamp6 = refl;
       timestamp1 = refl;

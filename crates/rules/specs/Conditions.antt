@@ -90,6 +90,7 @@ lost old new = any (λ n. fallen n (listedAs (n .name) new)) old
 unfoldable pub within : List Bytes → List Bytes → Bool
 within as′ bs = allOf (λ a. isIn a bs) as′
 
+-- its "set of keyids .. differs"
 unfoldable pub otherKeys : Role → Role → Bool
 otherKeys old new = not (within (old .keyids) (new .keyids) && within (new .keyids) (old .keyids))
 
