@@ -266,6 +266,30 @@ static void an_update(void)
     EXPECT(MORNING, gw_held(&state).start);
 }
 
+/* ---- The stolen laptop of story 6: root 2 has the same keys and another threshold */
+
+static void a_stolen_laptop(void)
+{
+    const file root_1 = taken("root-1-either-key.json"), root_2 = taken("root-2-both-keys.json");
+    const file thief = taken("timestamp-900-laptop.json"), desk = taken("timestamp-42-desk.json"), both = taken("timestamp-43-both.json");
+    const file snapshot = taken("snapshot-7.json"), targets = taken("targets-3.json");
+    gw_state state;
+
+    EXPECT(GW_ACCEPTED, gw_install(&state, root_1.at, root_1.len, GOOD, 2, MORNING));
+    EXPECT(GW_ACCEPTED, gw_timestamp(&state, thief.at, thief.len, GOOD, 1));
+    EXPECT(GW_ACCEPTED, gw_snapshot(&state, snapshot.at, snapshot.len, GOOD, 1));
+    EXPECT(GW_ACCEPTED, gw_targets(&state, targets.at, targets.len, GOOD, 1));
+    EXPECT(1900007003, held(&state));
+    EXPECT(GW_WRONG_VERSION, gw_timestamp(&state, desk.at, desk.len, GOOD, 1));
+
+    EXPECT(GW_ACCEPTED, gw_root(&state, root_2.at, root_2.len, GOOD, 2, GOOD, 2));
+    EXPECT(2000000000, held(&state));
+    EXPECT(GW_FEW_HELD_KEYS, gw_timestamp(&state, thief.at, thief.len, GOOD, 1));
+    EXPECT(GW_FEW_HELD_KEYS, gw_timestamp(&state, desk.at, desk.len, GOOD, 1));
+    EXPECT(GW_ACCEPTED, gw_timestamp(&state, both.at, both.len, GOOD, 2));
+    EXPECT(2043000000, held(&state));
+}
+
 /* ---- Names compared: those smaller than the path, byte by byte with escapes undone, and one more where one is left */
 
 #define ONES_16 "1111111111111111"
@@ -503,6 +527,7 @@ int main(int argc, char **argv)
     nothing_at_all();
     looking_in();
     an_update();
+    a_stolen_laptop();
     names_compared();
     no_names_compared();
     keyids();

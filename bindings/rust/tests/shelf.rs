@@ -146,6 +146,11 @@ fn another_key() {
     assert_eq!(play("5-other-key.txt"), 11);
 }
 
+#[test]
+fn a_stolen_laptop() {
+    assert_eq!(play("6-stolen-laptop.txt"), 15);
+}
+
 // ---- What the stories do not ask
 
 /// The last digit of a keyid leaves the key table in order.

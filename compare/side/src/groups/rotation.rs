@@ -18,6 +18,8 @@ const LATER: i64 = 2_000_000_000;
 /// The key table of every root. All of its keys sign every file, so that no answer depends on them.
 const KEYS: RangeInclusive<usize> = 1..=11;
 
+const IMAGE: &[u8] = b"an image";
+
 /// What is held before the second root, and what is left after it.
 const ALL: &str = "timestamp=3 snapshot=5 targets=7";
 const WITHOUT_TARGETS: &str = "timestamp=3 snapshot=5 targets=-";
@@ -45,8 +47,8 @@ fn rotation() -> Cases {
     }))
 }
 
-/// One role after the other is each of these in the first root, and each in the second, there in another order: it is rotated
-/// unless it is the same one.
+/// One role after the other is each of [`every_role`] in the first root, and each in the second, there with its keys in another
+/// order: it is rotated unless it is the same one.
 fn every_pair(script: &mut Recorder) {
     type Part = fn(&mut Root) -> &mut Role;
     let parts: [(Part, &str); 4] = [
@@ -71,15 +73,18 @@ fn every_pair(script: &mut Recorder) {
 
 /// Each set of these keys but the empty one with each threshold that it may have. No two of them are the same role.
 fn every_role(keys: [usize; 3]) -> Vec<Role> {
-    let sets = (1..8_usize).map(|bits| keys.iter().enumerate().filter(move |(place, _)| bits >> place & 1 == 1));
-    sets.flat_map(|set| {
-        let keys: Vec<usize> = set.map(|(_, key)| *key).collect();
-        (1..=keys.len()).map(move |threshold| Role::new(keys.clone(), threshold as u64))
-    })
-    .collect()
+    let mut roles = Vec::new();
+    for bits in 1..1_usize << keys.len() {
+        let places = (0..keys.len()).filter(|place| (bits >> place) & 1 == 1);
+        let set: Vec<usize> = places.map(|place| keys[place]).collect();
+        for threshold in 1..=set.len() {
+            roles.push(Role::new(set.clone(), threshold as u64));
+        }
+    }
+    roles
 }
 
-/// The four roles change in every mixture of these ways: one of two keys each, and whether that is a rotation.
+/// The four roles, each of two keys of which one is enough, change in every mixture of these ways, some of which are rotations.
 fn every_mixture(script: &mut Recorder) {
     const CHANGES: [(fn(&mut Role), bool); 5] = [
         (|_| (), false),
@@ -111,12 +116,31 @@ fn root(version: u64) -> Root {
     root
 }
 
-/// The first root is installed, files of the other roles become trusted, and the second root leaves so many of them.
+/// The second root leaves so many of the records that are held under the first.
 fn tried(script: &mut Recorder, first: &Root, second: &Root, left: &str) {
-    let row = vec![1; KEYS.count()];
+    let targets = complete(script, first);
+    let call = Call::Root {
+        file: signed(second.signed()),
+        held_row: row(),
+        own_row: row(),
+    };
+    script.stated(call, format!("root 0 root=2 {left} time={NOW}"));
+    let call = Call::Find {
+        file: targets,
+        path: b"image".to_vec(),
+    };
+    let answer = match left {
+        ALL => found(8, &digest(IMAGE), 1),
+        _ => refused(6),
+    };
+    script.stated(call, answer);
+}
+
+/// The root is installed, and a file of each other role becomes trusted. Gives the targets file.
+fn complete(script: &mut Recorder, root: &Root) -> Vec<u8> {
     let install = Call::Install {
-        file: signed(first.signed()),
-        row: row.clone(),
+        file: signed(root.signed()),
+        row: row(),
         time: NOW,
     };
     script.stated(install, "install 0");
@@ -125,41 +149,32 @@ fn tried(script: &mut Recorder, first: &Root, second: &Root, left: &str) {
         snapshot: Listed::version(5),
     };
     let file = signed(timestamp.signed());
-    script.stated(Call::Timestamp { file, row: row.clone() }, "timestamp 0");
+    script.stated(Call::Timestamp { file, row: row() }, "timestamp 0");
     let snapshot = Snapshot {
         header: Header::new(5, LATER),
         meta: BTreeMap::from([("targets.json".to_string(), Listed::version(7))]),
     };
     let file = signed(snapshot.signed());
-    script.stated(Call::Snapshot { file, row: row.clone() }, "snapshot 0");
-    let image = digest(b"an image");
+    script.stated(Call::Snapshot { file, row: row() }, "snapshot 0");
     let targets = Targets {
         header: Header::new(7, LATER),
-        targets: BTreeMap::from([("image".to_string(), (8, image))]),
+        targets: BTreeMap::from([("image".to_string(), (8, digest(IMAGE)))]),
     };
-    let list = signed(targets.signed());
+    let file = signed(targets.signed());
     let call = Call::Targets {
-        file: list.clone(),
-        row: row.clone(),
+        file: file.clone(),
+        row: row(),
     };
     script.stated(call, format!("targets 0 root=1 {ALL} time={NOW}"));
-
-    let call = Call::Root {
-        file: signed(second.signed()),
-        held_row: row.clone(),
-        own_row: row,
-    };
-    script.stated(call, format!("root 0 root=2 {left} time={NOW}"));
-    let call = Call::Find {
-        file: list,
-        path: b"image".to_vec(),
-    };
-    let answer = if left == ALL { found(8, &image, 1) } else { refused(6) };
-    script.stated(call, answer);
+    file
 }
 
 fn signed(part: Tree) -> Vec<u8> {
     files::file(part, &KEYS.collect::<Vec<_>>()).written()
+}
+
+fn row() -> Vec<u8> {
+    vec![1; KEYS.count()]
 }
 
 #[cfg(test)]
