@@ -86,7 +86,8 @@ fn every_role(keys: [usize; 3]) -> Vec<Role> {
 
 /// The four roles, each of two keys of which one is enough, change in every mixture of these ways, some of which are rotations.
 fn every_mixture(script: &mut Recorder) {
-    const CHANGES: [(fn(&mut Role), bool); 5] = [
+    type Change = fn(&mut Role);
+    const CHANGES: [(Change, bool); 5] = [
         (|_| (), false),
         (|role| role.keys.reverse(), false),
         (|role| role.threshold = 2, true),
