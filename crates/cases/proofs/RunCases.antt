@@ -12,10 +12,10 @@ use Rattle.sha256.specs.Message.{digestOf}
 use Rattle.rules.specs.Forms.{root}
 use Rattle.rules.specs.Reading.{noTable, readAs}
 use Rattle.rules.specs.State.{blank, State, Call, Root, Timestamp, Snapshot, keepRoot, kept, targetsIn, newCycle, newTimestamp, newSnapshot, newTargets, find, askKey}
-use Rattle.rules.specs.Records.{Key, Role, Read, says}
+use Rattle.rules.specs.Records.{Key, Role, Named, Read, says}
 use Rattle.rules.specs.Steps.{answer, withStart, next}
 use Rattle.rules.specs.Asked.{Found, inTargets, comparedIn, publicKey, zeros, EntryAsked, entryAt}
-use Rattle.cases.proofs.Texts.{fileText, timestampText, snapshotText, targetsPart, quoted, m, n, k, l, keyText, roleText, rootText}
+use Rattle.cases.proofs.Texts.{timestampText, snapshotText, targetsText, quoted, m, n, k, l, keyText, roleText, rootText}
 use Rattle.rules.proofs.Cases.{Case, _gives_, Right}
 use Rattle.rules.proofs.Computing.{calls}
 
@@ -25,10 +25,10 @@ abbrev pub stamp : String → String → Call
 stamp snapshot version = newTimestamp (record { file = timestampText snapshot version; row = 1 ∷ [] })
 
 abbrev pub shot : Call
-shot = newSnapshot (record { file = snapshotText "1" "1"; row = 1 ∷ [] })
+shot = newSnapshot (record { file = snapshotText "1" "1" "1"; row = 1 ∷ [] })
 
 abbrev pub goodsFile : Bytes
-goodsFile = fileText targetsPart
+goodsFile = targetsText "1"
 
 abbrev pub goods : Call
 goods = newTargets (record { file = goodsFile; row = 1 ∷ [] })
@@ -69,12 +69,15 @@ root1 = heldRoot (keyK ∷ []) (only k) 1
 abbrev pub heldTimestamp : Timestamp
 heldTimestamp = record { version = 1; expires = end; snapshot = record { version = 1; length = none; digest = none } }
 
+abbrev pub version1 : String → Named
+version1 name = record { name = bytes name; listed = record { version = 1; length = none; digest = none } }
+
 abbrev pub heldSnapshot : Snapshot
 heldSnapshot =
     record {
       version = 1;
       expires = end;
-      names = record { name = bytes "targets.json"; listed = record { version = 1; length = none; digest = none } } ∷ [];
+      names = version1 "a.json" ∷ version1 "targets.json" ∷ [];
     }
 
 -- the states after install, timestamp, snapshot and targets, with whatever root and start time; the targets of that digest

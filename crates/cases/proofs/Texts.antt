@@ -70,15 +70,17 @@ timestampText snapshot version =
     (bytes "{\"_type\":\"timestamp\",\"expires\":\"2030-01-01T00:00:00Z\",\"meta\":{\"snapshot.json\":{\"version\":" ++ bytes snapshot
     ++ bytes "}},\"spec_version\":\"1.0.26\",\"version\":" ++ bytes version ++ bytes "}")
 
--- a snapshot: the version of targets that it lists and its own
-abbrev pub snapshotText : String → String → Bytes
-snapshotText targets version =
+-- a snapshot: the versions of `a.json` and targets that it lists and its own
+abbrev pub snapshotText : String → String → String → Bytes
+snapshotText other targets version =
     fileText
-    (bytes "{\"_type\":\"snapshot\",\"expires\":\"2030-01-01T00:00:00Z\",\"meta\":{\"targets.json\":{\"version\":" ++ bytes targets
+    (bytes "{\"_type\":\"snapshot\",\"expires\":\"2030-01-01T00:00:00Z\",\"meta\":{\"a.json\":{\"version\":" ++ bytes other
+    ++ bytes "},\"targets.json\":{\"version\":" ++ bytes targets
     ++ bytes "}},\"spec_version\":\"1.0.26\",\"version\":" ++ bytes version ++ bytes "}")
 
--- the signed part of targets: the image `a/b`, of 5 bytes
-abbrev pub targetsPart : Bytes
-targetsPart =
-    bytes "{\"_type\":\"targets\",\"expires\":\"2030-01-01T00:00:00Z\",\"spec_version\":\"1.0.26\",\"targets\":{\"a/b\":{\"hashes\":{\"sha256\":" ++ quoted n
-    ++ bytes "},\"length\":5}},\"version\":1}"
+-- targets: the image `a/b`, of 5 bytes, and its own version
+abbrev pub targetsText : String → Bytes
+targetsText version =
+    fileText
+    (bytes "{\"_type\":\"targets\",\"expires\":\"2030-01-01T00:00:00Z\",\"spec_version\":\"1.0.26\",\"targets\":{\"a/b\":{\"hashes\":{\"sha256\":" ++ quoted n
+    ++ bytes "},\"length\":5}},\"version\":" ++ bytes version ++ bytes "}")

@@ -247,7 +247,7 @@ fn number_may(s: &[u8], found: Found, lo: u64, hi: u64) -> MayNumber
     }
 }
 
-// "version" 1 to 2,147,483,647.
+// "version" 1 to 9,007,199,254,740,991 (A7).
 pub fn version_field(s: &[u8], found: Found) -> Number
     ensures { λ r. ⌜ TakesMust (now (s .entry)) found (number 1 maxVersion) (viewNumber r) ⌝ }
 {

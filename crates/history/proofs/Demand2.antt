@@ -7,7 +7,7 @@ use Rattle.rules.specs.Asked.{Found}
 use Rattle.rules.specs.Exactly.{RootRead, InstallExactly, ImageExactly, Demand2}
 use Rattle.rules.specs.History.{History, run, end}
 use Rattle.rules.proofs.NextLaws.{next-refused, next-same}
-use Rattle.rules.proofs.ExactlyLaws.{root-good, good-root, root-after, timestamp-good, good-timestamp, timestamp-after, snapshot-good, good-snapshot, snapshot-after, targets-good, good-targets, targets-after, find-good, good-find, finds, finds-nothing, key-good, good-key, key-given, no-key, image-good, good-image, next-cycle, install-good, good-install, install-after, install-refused}
+use Rattle.rules.proofs.ExactlyLaws.{root-good, good-root, root-after, no-next-root, timestamp-good, good-timestamp, timestamp-after, snapshot-good, good-snapshot, snapshot-after, targets-good, good-targets, targets-after, find-good, good-find, finds, finds-nothing, key-good, good-key, key-given, no-key, image-good, good-image, next-cycle, install-good, good-install, install-after, install-refused}
 use Rattle.rules.proofs.SearchLaws.{not-searched, was-searched, find-stops}
 use Rattle.history.proofs.Trusted.{read-next, read-installed}
 
@@ -28,6 +28,7 @@ demand2 s read =
     record {
       root = λ o. (root-good s o read, λ w. good-root s o (w .0) (w .1));
       rootAfter = root-after s;
+      noNextRoot = λ held e top o. no-next-root s o read held e top;
       timestamp = λ o. (timestamp-good s o read, λ w. good-timestamp s o (w .0) (w .1));
       timestampAfter = timestamp-after s;
       snapshot = λ o. (snapshot-good s o read, λ w. good-snapshot s o (w .0) (w .1));

@@ -17,6 +17,7 @@ use Rattle.rules.proofs.KeyidLaws.{one-key}
 use Rattle.rules.proofs.ExactlyLaws.{install-good, install-after}
 use Rattle.history.proofs.Trusted.{TrustedBy, root, trusted-by, by-trusted, read-next, read-installed}
 use Rattle.history.proofs.Keyids.{own-keyids}
+use Rattle.history.proofs.Versions.{trusted-versions}
 use Rattle.history.proofs.Falls.{Rising, rising-same, rising-trans, rising, roots-rise, timestamps-rise, snapshots-rise, targets-rise}
 use Rattle.history.proofs.Held.{root-held, timestamp-held, snapshot-held, targets-held}
 use Rattle.history.proofs.Publisher.{through}
@@ -145,6 +146,7 @@ demand3 h =
       heldTargets = targets-held h;
       keyids = λ e r m t. own-keyids t;
       oneKey = λ e₁ e₂ r₁ r₂ m₁ m₂ t₁ t₂ k l i j. one-key k l (own-keyids t₁ k i) (own-keyids t₂ l j);
+      versions = λ e x m t. trusted-versions t;
       rootExactly =
           λ s′ o r es m reads heldRow ownRow.
           let at = reached s read (h .calls) s′ (newRoot o) (in-events h s′ (newRoot o) m) in

@@ -6,5 +6,6 @@ pub mod Held
 pub mod Publisher
 pub mod Demand2
 pub mod Keyids
+pub mod Versions
 pub mod Demand3
 pub mod Program

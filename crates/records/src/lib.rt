@@ -8,7 +8,7 @@ pub const MAX_FILE: usize = 32768;
 
 pub const MAX_ENTRIES: usize = 16;
 
-pub const MAX_VERSION: u64 = 2147483647;
+pub const MAX_VERSION: u64 = 9007199254740991;
 
 pub const MAX_KEYS: usize = 16;
 

@@ -1,8 +1,8 @@
 -- Demand 2 for the written rules: each call answers 0 exactly when all of its conditions hold, and what it then gives.
-use mathlib.Core.Path.{_≡_, refl, _∙_}
+use mathlib.Core.Path.{_≡_, refl, ap, _∙_}
 use mathlib.Core.Option.{some}
 use mathlib.Core.Bool.{false}
-use mathlib.Core.List.{List}
+use mathlib.Core.List.{List, List·Memᴰ·head}
 use native.Mathlib.Omega.{arith}
 use native.Mathlib.Nat.{le-of-lt}
 use lib.IntN.{ℤ}
@@ -11,20 +11,21 @@ use borrow.Author.Tests.{eq-eqb, eqb-true, ltb-false, le-ltb, eqb-false, ne-eqb,
 use Rattle.base.specs.Bytes.{Bytes}
 use Rattle.base.specs.Hex.{undo}
 use Rattle.date.specs.Calendar.{expired}
-use Rattle.rules.specs.Limits.{keySize}
+use Rattle.rules.specs.Limits.{maxVersion, keySize}
 use Rattle.rules.specs.Records.{Key, Image, File, says}
 use Rattle.rules.specs.State.{Root, Timestamp, Snapshot, State, blank, rootIn, timestampIn, snapshotIn, targetsIn, keepTargets, Install, RootOffer, FileOffer, Query, newCycle, newRoot, newTimestamp, newSnapshot, newTargets, find, askKey}
 use Rattle.rules.specs.Table.{first, ofHeld, absent}
 use Rattle.rules.specs.Conditions.{staleSnapshot, staleTargets, imageOf, keyOf}
 use Rattle.rules.specs.Steps.{installTable, cycleTable, rootTable, timestampTable, snapshotTable, targetsTable, findTable, keyTable, installAnswer, installed, begun, rootAlone, answer, refuses, next, withStart, withRoot, withTimestamp, withSnapshot, withTargets, aRoot, aTimestamp, aSnapshot, aTargets, offered, started, trusting, afterRoot}
 use Rattle.rules.specs.Asked.{Found, imageTable, imageAnswer, nothingFound, theImage, inTargets, found, zeros, publicOf, inRoot, publicKey}
-use Rattle.rules.specs.Words.{Different}
+use Rattle.rules.specs.Words.{Different, IsVersion}
 use Rattle.rules.specs.Exactly.{LeansOnRoot, LeansOnTimestamp, LeansOnSnapshot, LeansOnTargets, InstallGood, RootGood, TimestampGood, SnapshotGood, TargetsGood, FindGood, KeyGood, ImageGood, RootRead}
 use Rattle.rules.proofs.OptionLaws.{not-absent}
 use Rattle.rules.proofs.ListLaws.{not-exactly, same-exactly}
 use Rattle.rules.proofs.WordLaws.{row-good, digest-good, version-exactly, fresh-exactly, enough-passes, passes-enough, keeps-exactly, matches-exactly}
 use Rattle.rules.proofs.RootLaws.{root-different}
-use Rattle.rules.proofs.TableLaws.{_&_, clear-first, no-line, held-test, test-held, judged-says, says-judged}
+use Rattle.rules.proofs.VersionLaws.{root-versions}
+use Rattle.rules.proofs.TableLaws.{one-held, _&_, clear-first, no-line, held-test, test-held, judged-says, says-judged}
 use Rattle.rules.proofs.NextLaws.{next-none, next-trusting, says-what}
 
 -- ## Root
@@ -54,6 +55,14 @@ module _ (s : State) (o : RootOffer) where
           version = version-exactly _ _ .0 (held-test _ (h .1) (p 11 0));
         },
       )
+
+  -- a next root would have a version above all that are read
+  pub no-next-root : RootRead s → (held : Root) → s .root ≡ some held → held .version ≡ maxVersion → ¬ (answer s (newRoot o) ≡ 0)
+  no-next-root read held e top a =
+      let g = root-good read a in
+      let new : IsVersion (g .0 .version) = root-versions (o .file) (g .0) (g .1 .entries) (g .1 .reads) _ (List·Memᴰ·head refl) in
+      let one : g .1 .held .version ≡ held .version = ap (λ (r : Root). r .version) (one-held (g .1 .isHeld) e) in
+      omega (arith, new .atMost, g .1 .version, one, top)
 
   pub good-root : (r : Root) → RootGood s o r → answer s (newRoot o) ≡ 0
   unfolding answer rootTable

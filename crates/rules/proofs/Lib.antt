@@ -5,11 +5,13 @@ pub mod ReadingLaws
 pub mod HexLaws
 pub mod RootLaws
 pub mod KeyidLaws
+pub mod VersionLaws
 pub mod SnapshotLaws
 pub mod NumberLaws
 pub mod Computing
 pub mod Cases
 pub mod StepCases
+pub mod VersionCases
 pub mod TableLaws
 pub mod SearchLaws
 pub mod NextLaws

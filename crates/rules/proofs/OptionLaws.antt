@@ -4,11 +4,11 @@ use mathlib.Core.Logic.{_↔_}
 use mathlib.Core.Bool.{Bool, true, false, _&&_}
 use mathlib.Core.Option.{Option, none, some, bind}
 use Prim.Native.Nat.{ℕ, _≤_}
-use borrow.Author.Tests.{leb-true}
+use borrow.Author.Tests.{leb-true, le-leb}
 use lib.Dec.{leb}
 use Rattle.base.proofs.TestLaws.{never, both}
 use Rattle.json.specs.Json.{Json}
-use Rattle.json.specs.Fields.{keep, between, number}
+use Rattle.json.specs.Fields.{keep, natural, between, number}
 use Rattle.rules.specs.Take.{_>>=_}
 use Rattle.rules.specs.Table.{ofHeld, absent}
 
@@ -32,14 +32,17 @@ unfolding keep
 kept-is true a e = (refl, some-is e)
 kept-is false a e = none-not-some e
 
--- a number that was read is within its limits
-pub number-within : (lo hi : ℕ) (v : Json) (n : ℕ) → number lo hi v ≡ some n → (lo ≤ n) × (n ≤ hi)
-unfolding number between
-number-within lo hi v n e =
-    let m = had _ _ e in
-    let k = kept-is (leb lo (m .0) && leb (m .0) hi) (m .0) (m .2) in
-    let w = both (leb lo (m .0)) (leb (m .0) hi) (k .0) in
-    subst (λ (x : ℕ). (lo ≤ x) × (x ≤ hi)) (k .1) (leb-true lo (m .0) (w .0), leb-true (m .0) hi (w .1))
+-- a whole number is read exactly where it is within its limits
+pub number-exactly : (lo hi : ℕ) (v : Json) (n : ℕ) → (number lo hi v ≡ some n) ↔ ((natural v ≡ some n) × (lo ≤ n) × (n ≤ hi))
+unfolding number between bind keep
+number-exactly lo hi v n = (there, λ w. rw (w .0, le-leb lo n (w .1), le-leb n hi (w .2)))
+  where
+    there : number lo hi v ≡ some n → (natural v ≡ some n) × (lo ≤ n) × (n ≤ hi)
+    there e =
+        let m = had (natural v) (between lo hi) e in
+        let k = kept-is (leb lo (m .0) && leb (m .0) hi) (m .0) (m .2) in
+        let w = both (leb lo (m .0)) (leb (m .0) hi) (k .0) in
+        subst (λ (x : ℕ). (natural v ≡ some x) × (lo ≤ x) × (x ≤ hi)) (k .1) (m .1, leb-true lo (m .0) (w .0), leb-true (m .0) hi (w .1))
 
 -- ## Records that may be held
 

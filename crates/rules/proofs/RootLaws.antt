@@ -23,7 +23,7 @@ use Rattle.rules.specs.Forms.{Envelope, envelope, isIn, different, allOf
 use Rattle.rules.specs.Reading.{readRoot}
 use Rattle.rules.specs.State.{Root, filter, keepRole, keepRoot, rootIn}
 use Rattle.rules.specs.Words.{Different, SameKeys}
-use Rattle.rules.proofs.OptionLaws.{none-not-some, some-is, had, kept-is, number-within}
+use Rattle.rules.proofs.OptionLaws.{none-not-some, some-is, had, kept-is, number-exactly}
 use Rattle.rules.proofs.ListLaws.{different-true, all-true, is-in, no-longer, filtered, filter-different}
 use Rattle.rules.proofs.HexLaws.{hex-one}
 use Rattle.rules.proofs.ReadingLaws.{parsed-exactly, role-file, body-is, kept-says}
@@ -159,13 +159,13 @@ role-says table v r e =
     let g = kept-is (different (ids .0) && allOf (λ k. isIn k table) (ids .0)) (ids .0) (good .1) in
     let w = both (different (ids .0)) (allOf (λ k. isIn k table) (ids .0)) (g .0) in
     let at = had _ _ (threshold .1) in
-    let t = number-within 1 (length (good .0)) (at .0) (threshold .0) (at .2) in
+    let t = number-exactly 1 (length (good .0)) (at .0) (threshold .0) .0 (at .2) in
     subst (RoleSays table) (some-is (threshold .2))
     (record {
       different = subst Different (g .1) (different-true (ids .0) .0 (w .0));
       listed = λ k m. is-in k table .0 (all-true (λ k. isIn k table) (ids .0) .0 (w .1) k (subst (λ (l : List Bytes). List·Memᴰ k l) (sym (g .1)) m));
-      least = t .0;
-      most = t .1;
+      least = t .1;
+      most = t .2;
     })
 
 -- what is kept of it

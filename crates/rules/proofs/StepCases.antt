@@ -63,9 +63,15 @@ snapshotUntil expires version targets =
 abbrev pub snapshotAt : ℕ → ℕ → Snapshot
 snapshotAt = snapshotUntil (pos 1000)
 
--- a state that holds root 4 only
+-- a state that holds a root only, of any version or root 4
+abbrev pub holdingRoot : Root → ℤ → State
+holdingRoot root start = record { root = some root; timestamp = none; snapshot = none; targets = none; start = start }
+
+abbrev pub holdingVersion : ℕ → State
+holdingVersion version = holdingRoot (rootAt version (only b) (only b) (only b)) (pos 999)
+
 abbrev pub holding : ℤ → State
-holding start = record { root = some root4; timestamp = none; snapshot = none; targets = none; start = start }
+holding = holdingRoot root4
 
 -- a state that holds root 4, timestamp 2, snapshot 3 and targets 7, by when each expires, the snapshot that the timestamp lists and the
 -- targets that the snapshot lists
@@ -128,6 +134,11 @@ answers =
     ∷ toRoot (holding (pos 2000)) 1 1 5 gives 0
     ∷ toRoot (holding (pos 2000)) 1 1 4 gives 11
     ∷ toRoot (holding (pos 2000)) 1 1 6 gives 11
+    -- "Held 2,147,483,647: no next root exists", at A7's limit; what is above it is not read (VersionCases, `noNextRoot` of Demand2)
+    ∷ toRoot (holdingVersion 9007199254740990) 1 1 9007199254740991 gives 0
+    ∷ toRoot (holdingVersion 9007199254740991) 1 1 9007199254740991 gives 11
+    ∷ toRoot (holdingVersion 9007199254740991) 1 1 9007199254740990 gives 11
+    ∷ toRoot (holdingVersion 9007199254740991) 1 1 1 gives 11
     -- one row of verdicts is not enough
     ∷ toRoot (holding (pos 2000)) 0 1 5 gives 9
     ∷ toRoot (holding (pos 2000)) 1 0 5 gives 10
@@ -145,6 +156,8 @@ answers =
     ∷ toTimestamp (full 7) 1 (timestampAt 2 (pos 1000) 3) gives 12
     ∷ toTimestamp (full 7) 1 (timestampAt 3 (pos 1000) 2) gives 13
     ∷ toTimestamp (full 7) 1 (timestampAt 3 (pos 1000) 3) gives 0
+    -- A7: "numbers files like 20260101120000"
+    ∷ toTimestamp (full 7) 1 (timestampAt 20260101120000 (pos 1000) 20260101115900) gives 0
     -- a snapshot as listed; of another length, version; not signed; with a lower version listed
     ∷ toSnapshot (full 7) 1 30 (snapshotAt 3 7) gives 0
     ∷ toSnapshot (full 7) 1 31 (snapshotAt 3 7) gives 8

@@ -11,7 +11,7 @@ use lib.ListN.{length}
 use Rattle.base.specs.Bytes.{Bytes}
 use Rattle.base.specs.Hex.{isHex, undo}
 use Rattle.sha256.specs.Message.{digestOf}
-use Rattle.rules.specs.Limits.{maxPath, keySize}
+use Rattle.rules.specs.Limits.{maxVersion, maxPath, keySize}
 use Rattle.rules.specs.Records.{Key, Image, File, says}
 use Rattle.rules.specs.State.{Root, Timestamp, Snapshot, Targets, State, blank, rootIn, timestampIn, snapshotIn, targetsIn, keepTargets, Install, RootOffer, FileOffer, Query, Call, newCycle, newRoot, newTimestamp, newSnapshot, newTargets, find, askKey, askState}
 use Rattle.rules.specs.Conditions.{targetsEntry, imageOf, keyOf}
@@ -143,6 +143,8 @@ ImageExactly listed fetched = (imageAnswer listed fetched ≡ 0) ↔ ImageGood l
 pub record Demand2 (s : State) : Type 0 where
   pub root : (o : RootOffer) → (answer s (newRoot o) ≡ 0) ↔ ((r : Root) × RootGood s o r)
   pub rootAfter : (o : RootOffer) (r : Root) (g : RootGood s o r) → next s (newRoot o) ≡ withRoot s (g .held) r
+  -- "Held 2,147,483,647: no next root exists", which A7 moves to its limit
+  pub noNextRoot : (held : Root) → s .root ≡ some held → held .version ≡ maxVersion → (o : RootOffer) → ¬ (answer s (newRoot o) ≡ 0)
   pub timestamp : (o : FileOffer) → (answer s (newTimestamp o) ≡ 0) ↔ ((t : Timestamp) × TimestampGood s o t)
   pub timestampAfter : (o : FileOffer) (t : Timestamp) → TimestampGood s o t → next s (newTimestamp o) ≡ withTimestamp s t
   pub snapshot : (o : FileOffer) → (answer s (newSnapshot o) ≡ 0) ↔ ((n : Snapshot) × SnapshotGood s o n)

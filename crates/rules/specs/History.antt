@@ -2,17 +2,17 @@
 use mathlib.Core.Path.{_≡_}
 use mathlib.Core.Logic.{_↔_, _⊎_}
 use mathlib.Core.Option.{some}
-use mathlib.Core.List.{List, [], _∷_, _++_, List·Memᴰ}
-use Prim.Native.Nat.{_+_, _≤_, _<_}
+use mathlib.Core.List.{List, [], _∷_, _++_, map, List·Memᴰ}
+use Prim.Native.Nat.{ℕ, _+_, _≤_, _<_}
 use lib.IntN.{ℤ}
 use lib.ListN.{length}
 use Rattle.base.specs.Bytes.{Bytes}
 use Rattle.sha256.specs.Message.{digestOf}
-use Rattle.rules.specs.Records.{Key, Image, File, Read, says}
+use Rattle.rules.specs.Records.{Key, Named, Image, File, Read, says}
 use Rattle.rules.specs.State.{Root, Timestamp, Snapshot, Targets, State, keepTargets, rootIn, timestampIn, snapshotIn, targetsIn, Install, RootOffer, FileOffer, Call, newRoot, newTimestamp, newSnapshot, newTargets}
 use Rattle.rules.specs.Conditions.{targetsEntry}
 use Rattle.rules.specs.Steps.{installAnswer, answer, Item, aRoot, aTimestamp, aSnapshot, aTargets, offered, next, installed}
-use Rattle.rules.specs.Words.{GoodRow, Enough, OwnKeyid, Collision, Rotated, Expired, Keeps, Matches}
+use Rattle.rules.specs.Words.{GoodRow, Enough, OwnKeyid, Collision, Rotated, AllVersions, Expired, Keeps, Matches}
 
 -- ## Histories
 
@@ -49,6 +49,16 @@ pub data BecomesTrusted : Event → Item → Type 0 where
   atInstall : {o : Install} {r : Root} {entries : List Bytes} → rootIn (o .file) ≡ says r entries → installAnswer o ≡ 0
       → BecomesTrusted (begins o) (aRoot r)
   atCall : {s : State} {c : Call} {x : Item} → offered c ≡ some x → answer s c ≡ 0 → BecomesTrusted (calls s c) x
+
+abbrev pub listedVersions : List Named → List ℕ
+listedVersions ns = map (λ (n : Named). n .listed .version) ns
+
+-- A7: every place of a file that holds a version, its own and those that it lists
+abbrev pub versionsOf : Item → List ℕ
+versionsOf (aRoot r) = r .version ∷ []
+versionsOf (aTimestamp t) = t .version ∷ t .snapshot .version ∷ []
+versionsOf (aSnapshot n) = n .version ∷ listedVersions (n .names)
+versionsOf (aTargets g) = g .version ∷ []
 
 -- a root that becomes trusted and differs in this way from the one held before
 pub data Replaces (Differs : Root → Root → Type 0) : Event → Type 0 where
@@ -245,6 +255,8 @@ pub record Demand3 (h : History) : Type 0 where
   pub oneKey : (e₁ e₂ : Event) (r₁ r₂ : Root) → List·Memᴰ e₁ (happened h) → List·Memᴰ e₂ (happened h) → BecomesTrusted e₁ (aRoot r₁)
       → BecomesTrusted e₂ (aRoot r₂) → (k l : Key) → List·Memᴰ k (r₁ .keys) → List·Memᴰ l (r₂ .keys) → k .keyid ≡ l .keyid
       → (k ≡ l) ⊎ Collision
+  -- A7: every version of a file that became trusted, its own or one that it lists, is in the range of versions.
+  pub versions : (e : Event) (x : Item) → List·Memᴰ e (happened h) → BecomesTrusted e x → AllVersions (versionsOf x)
   -- A root is always held. A well-formed file (1 to 5 do not hold, nor A1's 16) offered as the next one becomes trusted exactly when its version is one above the held
   -- one's and enough keys of the held root and enough of its own signed it.
   pub rootExactly : (s : State) (o : RootOffer) (r : Root) (entries : List Bytes) → List·Memᴰ (calls s (newRoot o)) (happened h)

@@ -9,9 +9,9 @@ maxFile = 32768
 abbrev pub maxEntries : ℕ
 maxEntries = 16
 
--- "version 1 to 2,147,483,647"
+-- A7: "versions from 1 to 9,007,199,254,740,991"; in 01 they went to 2,147,483,647
 abbrev pub maxVersion : ℕ
-maxVersion = 2147483647
+maxVersion = 9007199254740991
 
 -- "keys, 1 to 16"
 abbrev pub maxKeys : ℕ

@@ -10,7 +10,7 @@ use lib.Signed.{_≤ℤ_}
 use Rattle.base.specs.Bytes.{Bytes}
 use Rattle.sha256.specs.Message.{digestOf}
 use Rattle.json.specs.Json.{Json, put, Valid}
-use Rattle.rules.specs.Limits.{digestSize}
+use Rattle.rules.specs.Limits.{maxVersion, digestSize}
 use Rattle.rules.specs.Records.{Key, Role, Listed, Named}
 use Rattle.rules.specs.Forms.{key, keyidOf}
 use Rattle.rules.specs.State.{Row}
@@ -71,6 +71,16 @@ SameKeys old new = (k : Bytes) → List·Memᴰ k (old .keyids) ↔ List·Memᴰ
 -- A5: "a role is rotated when its set of keyids or its threshold differs"
 abbrev pub Rotated : Role → Role → Type 0
 Rotated old new = ¬ SameKeys old new ⊎ ¬ (old .threshold ≡ new .threshold)
+
+-- ## Versions
+
+-- A7: "versions from 1 to 9,007,199,254,740,991"
+pub record IsVersion (n : ℕ) : Type 0 where
+  pub notZero : 1 ≤ n
+  pub atMost : n ≤ maxVersion
+
+abbrev pub AllVersions : List ℕ → Type 0
+AllVersions ns = (n : ℕ) → List·Memᴰ n ns → IsVersion n
 
 -- ## Dates
 
