@@ -1,92 +1,24 @@
 //! Every refusal, with small files, and each call with the refusals that document 01 gives it. Derived by hand from document 01; the
 //! digests are those that `sha256sum` gives.
 
+mod small;
+
 use gronwythal::{Refusal, State, check_image, entry, is_canonical, look, signed_part};
+use small::{
+    FAR, GOOD, KEY, KEYID, assert_refused, changed, root, root_of, snapshot_of, targets, targets_listing, timestamp,
+};
 use std::collections::BTreeSet;
-use std::fmt::Display;
 
-// ---- Small files: one key signs every role
-
-const KEY: &str = r#"{"keytype":"ed25519","keyval":{"public":"bbbbbbbbbbbbbbbbbbbbbbbbbbbbbbbbbbbbbbbbbbbbbbbbbbbbbbbbbbbbbbbb"},"scheme":"ed25519"}"#;
-const KEYID: &str = "72164dd0dd21502e17f1d57bfb21b4a44ec536df765ca2c57fdc9514846c4a7c"; // of KEY
-/// The same key with members that no form names.
+/// The key of the small files with members that no form names.
 const ANNOTATED: &str = r#"{"keytype":"ed25519","keyval":{"note":"é","public":"bbbbbbbbbbbbbbbbbbbbbbbbbbbbbbbbbbbbbbbbbbbbbbbbbbbbbbbbbbbbbbbb"},"scheme":"ed25519","x":["\"\\"]}"#;
 const ANNOTATED_KEYID: &str = "bd35653e86e909102266f0374b792b9153d20e84ecaf723ccdcac1955094fa65"; // of ANNOTATED
 const STRANGER: &str = "cccccccccccccccccccccccccccccccccccccccccccccccccccccccccccccccc";
-const FAR: &str = "2030-01-01T00:00:00Z"; // 1893456000
-
-fn envelope(keyid: &str, signed: &str) -> Vec<u8> {
-    let sig = "0".repeat(128);
-    format!(r#"{{"signatures":[{{"keyid":"{keyid}","sig":"{sig}"}}],"signed":{signed}}}"#).into_bytes()
-}
-
-fn root_of(version: u64, expires: &str, spec: &str) -> Vec<u8> {
-    let role = format!(r#"{{"keyids":["{KEYID}"],"threshold":1}}"#);
-    let signed = format!(
-        r#"{{"_type":"root","consistent_snapshot":false,"expires":"{expires}","keys":{{"{KEYID}":{KEY}}},"roles":{{"root":{role},"snapshot":{role},"targets":{role},"timestamp":{role}}},"spec_version":"{spec}","version":{version}}}"#
-    );
-    envelope(KEYID, &signed)
-}
-
-fn root(version: u64) -> Vec<u8> {
-    root_of(version, FAR, "1.0.26")
-}
-
-fn role(kind: &str, version: u64, expires: &str, last: &str) -> String {
-    format!(
-        r#"{{"_type":"{kind}","expires":"{expires}",{}"spec_version":"1"{},"version":{version}}}"#,
-        if kind == "targets" {
-            String::new()
-        } else {
-            format!("{last},")
-        },
-        if kind == "targets" {
-            format!(",{last}")
-        } else {
-            String::new()
-        },
-    )
-}
-
-fn timestamp(version: u64, snapshot: u64, expires: &str) -> Vec<u8> {
-    envelope(
-        KEYID,
-        &role(
-            "timestamp",
-            version,
-            expires,
-            &format!(r#""meta":{{"snapshot.json":{{"version":{snapshot}}}}}"#),
-        ),
-    )
-}
 
 /// A snapshot that lists a targets file of version 1 and these further names.
 fn snapshot(version: u64, names: &str, expires: &str) -> Vec<u8> {
-    envelope(
-        KEYID,
-        &role(
-            "snapshot",
-            version,
-            expires,
-            &format!(r#""meta":{{{names}"targets.json":{{"version":1}}}}"#),
-        ),
-    )
+    snapshot_of(version, names, 1, expires)
 }
 
-/// A targets file that lists these names, as a file writes them: the first image has 5 bytes, each later one has one byte more.
-fn targets_listing<N: Display>(names: &[N], version: u64, expires: &str) -> Vec<u8> {
-    let digest = "1".repeat(64);
-    let image = |(length, name)| format!(r#""{name}":{{"hashes":{{"sha256":"{digest}"}},"length":{length}}}"#);
-    let images: Vec<String> = (5..).zip(names).map(image).collect();
-    let list = format!(r#""targets":{{{}}}"#, images.join(","));
-    envelope(KEYID, &role("targets", version, expires, &list))
-}
-
-fn targets(version: u64, expires: &str) -> Vec<u8> {
-    targets_listing(&["i"], version, expires)
-}
-
-const GOOD: &[u8] = &[1];
 const SNAPSHOT_DIGEST: &str = "9c974a24a36f024898d9f37fac45c5fb306f50b363523d21e409dcde6996d243"; // of snapshot(3, "", FAR)
 const TARGETS_DIGEST: &str = "2e19a55450b45796079a7042bc545b05ccc3ae9289ccfd5bb679632356130044"; // of targets(1, FAR)
 
@@ -120,7 +52,6 @@ fn with_targets() -> State {
 
 /// Refusals that were seen, and that each left the state as it was.
 struct Seen {
-    before: State,
     state: State,
     numbers: BTreeSet<u8>,
 }
@@ -128,23 +59,20 @@ struct Seen {
 impl Seen {
     fn on(state: State) -> Seen {
         Seen {
-            before: state.clone(),
             state,
             numbers: BTreeSet::new(),
         }
     }
 
+    #[track_caller]
     fn step(&mut self, stated: u8, call: impl FnOnce(&mut State) -> Result<(), Refusal>) -> &mut Seen {
-        let refusal = call(&mut self.state).expect_err("refused");
-        assert_eq!(refusal.number(), stated);
-        assert_eq!(self.state.versions(), self.before.versions());
+        assert_refused(stated, &mut self.state, call);
         self.numbers.insert(stated);
         self
     }
 
     /// Goes on from another state.
     fn from(&mut self, state: State) -> &mut Seen {
-        self.before = state.clone();
         self.state = state;
         self
     }
@@ -164,12 +92,6 @@ fn undone(hex: &str) -> Vec<u8> {
         .step_by(2)
         .map(|at| u8::from_str_radix(&hex[at..at + 2], 16).unwrap())
         .collect()
-}
-
-fn changed(file: Vec<u8>, from: &str, to: &str) -> Vec<u8> {
-    let text = String::from_utf8(file).unwrap();
-    assert!(text.contains(from));
-    text.replacen(from, to, 1).into_bytes()
 }
 
 fn too_long() -> Vec<u8> {

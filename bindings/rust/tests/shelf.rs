@@ -151,6 +151,11 @@ fn a_stolen_laptop() {
     assert_eq!(play("6-stolen-laptop.txt"), 15);
 }
 
+#[test]
+fn versions_from_dates() {
+    assert_eq!(play("7-versions-from-dates.txt"), 22);
+}
+
 // ---- What the stories do not ask
 
 /// The last digit of a keyid leaves the key table in order.
