@@ -1,6 +1,7 @@
 /*
  * Every call of include/gronwythal.h, from C (C99 and later) and C++ (C++11 and later). The answers were derived by hand from document 01
- * and are those of the stories in examples/shelf, whose folder is the argument. The last line is 'N passed, M failed'.
+ * and the requests that amend it. Those of the files in examples/shelf, whose folder is the argument, are the answers of the stories there.
+ * The last line is 'N passed, M failed'.
  */
 #include <stdio.h>
 #include <stdlib.h>
@@ -416,6 +417,365 @@ static void no_names_compared(void)
     EXPECT(GW_HELD_EXPIRED, refused_uncompared(&state, list.at, list.len));
 }
 
+/* ---- Versions, from 1 to 9,007,199,254,740,991, in every place that holds one. In these files one key signs every role. */
+
+#define B_16 "bbbbbbbbbbbbbbbb"
+#define KEY "{\"keytype\":\"ed25519\",\"keyval\":{\"public\":\"" B_16 B_16 B_16 B_16 "\"},\"scheme\":\"ed25519\"}"
+#define KEYID "72164dd0dd21502e17f1d57bfb21b4a44ec536df765ca2c57fdc9514846c4a7c" /* the digest of KEY, by sha256sum */
+#define ONE_KEY "{\"keyids\":[\"" KEYID "\"],\"threshold\":1}"
+
+#define SMALL(signed_part) \
+    "{\"signatures\":[{\"keyid\":\"" KEYID "\",\"sig\":\"" ONES_64 ONES_64 "\"}],\"signed\":" signed_part "}"
+#define SMALL_ROOT(version) \
+    SMALL("{\"_type\":\"root\",\"consistent_snapshot\":false,\"expires\":\"2030-01-01T00:00:00Z\",\"keys\":{\"" KEYID "\":" KEY "}," \
+          "\"roles\":{\"root\":" ONE_KEY ",\"snapshot\":" ONE_KEY ",\"targets\":" ONE_KEY ",\"timestamp\":" ONE_KEY "}," \
+          "\"spec_version\":\"1\",\"version\":" version "}")
+#define SMALL_TIMESTAMP(version, snapshot) \
+    SMALL("{\"_type\":\"timestamp\",\"expires\":\"2030-01-01T00:00:00Z\",\"meta\":{\"snapshot.json\":{" snapshot "}}," \
+          "\"spec_version\":\"1\",\"version\":" version "}")
+#define SMALL_SNAPSHOT(version, other, targets) \
+    SMALL("{\"_type\":\"snapshot\",\"expires\":\"2030-01-01T00:00:00Z\",\"meta\":{\"other.json\":{" other "},\"targets.json\":{" targets "}}," \
+          "\"spec_version\":\"1\",\"version\":" version "}")
+#define SMALL_TARGETS(version, images) \
+    SMALL("{\"_type\":\"targets\",\"expires\":\"2030-01-01T00:00:00Z\",\"spec_version\":\"1\",\"targets\":{" images "},\"version\":" version "}")
+
+/* Versions are given as files write them: some are beyond every type. */
+static file root_of(const char *version)
+{
+    char content[4096];
+    snprintf(content, sizeof content, SMALL_ROOT("%s"), version);
+    return written(content);
+}
+
+static file timestamp_of(const char *version, const char *snapshot)
+{
+    char content[4096];
+    snprintf(content, sizeof content, SMALL_TIMESTAMP("%s", "\"version\":%s"), snapshot, version);
+    return written(content);
+}
+
+static file snapshot_of(const char *version, const char *other, const char *targets)
+{
+    char content[4096];
+    snprintf(content, sizeof content, SMALL_SNAPSHOT("%s", "\"version\":%s", "\"version\":%s"), other, targets, version);
+    return written(content);
+}
+
+static file targets_of(const char *version)
+{
+    char content[4096];
+    snprintf(content, sizeof content, SMALL_TARGETS("%s", LISTED("i", 5)), version);
+    return written(content);
+}
+
+static gw_answer install_small(gw_state *state, const file *f)
+{
+    return gw_install(state, f->at, f->len, GOOD, 1, 0);
+}
+
+static gw_answer offer_root(gw_state *state, const file *f)
+{
+    return gw_root(state, f->at, f->len, GOOD, 1, GOOD, 1);
+}
+
+static gw_answer offer_timestamp(gw_state *state, const file *f)
+{
+    return gw_timestamp(state, f->at, f->len, GOOD, 1);
+}
+
+static gw_answer offer_snapshot(gw_state *state, const file *f)
+{
+    return gw_snapshot(state, f->at, f->len, GOOD, 1);
+}
+
+static gw_answer offer_targets(gw_state *state, const file *f)
+{
+    return gw_targets(state, f->at, f->len, GOOD, 1);
+}
+
+static gw_answer find_in(const gw_state *state, const file *f)
+{
+    const gw_image image = found(state, f->at, f->len, text("i"), 1);
+    EXPECT(image.answer == GW_ACCEPTED ? 5 : 0, image.length);
+    return (gw_answer)image.answer;
+}
+
+typedef struct number {
+    const char *written;
+    uint64_t value; /* 0 where it is not a version */
+} number;
+
+static const number NUMBERS[] = {
+    {"-1", 0},
+    {"0", 0},
+    {"1", 1},
+    {"2", 2},
+    {"2147483647", UINT64_C(2147483647)}, /* the highest before change request A7 */
+    {"2147483648", UINT64_C(2147483648)},
+    {"4294967295", UINT64_C(4294967295)},
+    {"4294967296", UINT64_C(4294967296)},
+    {"4294967297", UINT64_C(4294967297)}, /* this and the next differ from 1 and 2 in the upper half alone */
+    {"4294967298", UINT64_C(4294967298)},
+    {"20260101120000", UINT64_C(20260101120000)}, /* made from a date */
+    {"9007199254740990", UINT64_C(9007199254740990)},
+    {"9007199254740991", UINT64_C(9007199254740991)}, /* the highest */
+    {"9007199254740992", 0},
+    {"9007199254740993", 0},
+    {"9223372036854775807", 0},
+    {"18446744073709551615", 0},
+    {"18446744073709551617", 0}, /* 1 to a reader that wraps at 64 bits */
+};
+
+enum { NUMBER_COUNT = sizeof NUMBERS / sizeof *NUMBERS };
+
+/* The four held versions, each by itself. */
+enum { ROOT, TIMESTAMP, SNAPSHOT, TARGETS_FILE, RECORDS };
+
+typedef struct record_versions {
+    uint64_t of[RECORDS];
+} record_versions;
+
+static void expect_versions(int line, const char *what, const record_versions *stated, const gw_state *state)
+{
+    const gw_versions v = gw_held(state);
+    const gw_version given[RECORDS] = {v.root, v.timestamp, v.snapshot, v.targets};
+    int i;
+    for (i = 0; i < RECORDS; i++) {
+        expect(line, what, (long long)stated->of[i], (long long)given[i].number);
+        expect(line, what, stated->of[i] != 0, given[i].held);
+    }
+}
+
+/* An update in which every version is this one. */
+static void whole_update(const number *n)
+{
+    const file root = root_of(n->written), timestamp = timestamp_of(n->written, n->written);
+    const file snapshot = snapshot_of(n->written, n->written, n->written), targets = targets_of(n->written);
+    record_versions stated = {{0, 0, 0, 0}};
+    gw_state state;
+
+    expect(__LINE__, n->written, GW_ACCEPTED, install_small(&state, &root));
+    stated.of[ROOT] = n->value;
+    expect_versions(__LINE__, n->written, &stated, &state);
+    expect(__LINE__, n->written, GW_ACCEPTED, offer_timestamp(&state, &timestamp));
+    stated.of[TIMESTAMP] = n->value;
+    expect_versions(__LINE__, n->written, &stated, &state);
+    expect(__LINE__, n->written, GW_ACCEPTED, offer_snapshot(&state, &snapshot));
+    stated.of[SNAPSHOT] = n->value;
+    expect_versions(__LINE__, n->written, &stated, &state);
+    expect(__LINE__, n->written, GW_ACCEPTED, offer_targets(&state, &targets));
+    stated.of[TARGETS_FILE] = n->value;
+    expect_versions(__LINE__, n->written, &stated, &state);
+    expect(__LINE__, n->written, GW_ACCEPTED, find_in(&state, &targets));
+}
+
+/* An install gives the blank state where the number is not a version. */
+static void refused_install(const number *n)
+{
+    const record_versions none = {{0, 0, 0, 0}};
+    const file root = root_of(n->written);
+    gw_state state;
+    expect(__LINE__, n->written, GW_BAD_FORM, install_small(&state, &root));
+    expect_versions(__LINE__, n->written, &none, &state);
+}
+
+static void versions_of_whole_updates(void)
+{
+    size_t i;
+    for (i = 0; i < NUMBER_COUNT; i++) {
+        if (NUMBERS[i].value) {
+            whole_update(&NUMBERS[i]);
+        } else {
+            refused_install(&NUMBERS[i]);
+        }
+    }
+}
+
+/* What an update has: the versions of root and timestamp, and those listed, of snapshot, another name and the targets file. */
+enum { OF_ROOT, OF_TIMESTAMP, OF_SNAPSHOT, OF_OTHER, OF_TARGETS, PLACES };
+
+/* The state after an update in which the version at that place is this one, and every other is 1; and its targets file. */
+static gw_state updated(int place, const number *n, file *targets)
+{
+    const char *at[PLACES] = {"1", "1", "1", "1", "1"};
+    file root, timestamp, snapshot;
+    gw_state state;
+    at[place] = n->written;
+    root = root_of(at[OF_ROOT]);
+    timestamp = timestamp_of(at[OF_TIMESTAMP], at[OF_SNAPSHOT]);
+    snapshot = snapshot_of(at[OF_SNAPSHOT], at[OF_OTHER], at[OF_TARGETS]);
+    *targets = targets_of(at[OF_TARGETS]);
+    expect(__LINE__, n->written, GW_ACCEPTED, install_small(&state, &root));
+    expect(__LINE__, n->written, GW_ACCEPTED, offer_timestamp(&state, &timestamp));
+    expect(__LINE__, n->written, GW_ACCEPTED, offer_snapshot(&state, &snapshot));
+    expect(__LINE__, n->written, GW_ACCEPTED, offer_targets(&state, targets));
+    return state;
+}
+
+/* The offers: a file with the version in question at one place. */
+
+static gw_answer next_root(gw_state *state, const char *version)
+{
+    const file f = root_of(version);
+    return offer_root(state, &f);
+}
+
+static gw_answer own_of_timestamp(gw_state *state, const char *version)
+{
+    const file f = timestamp_of(version, "1");
+    return offer_timestamp(state, &f);
+}
+
+static gw_answer listed_by_timestamp(gw_state *state, const char *version)
+{
+    const file f = timestamp_of("2", version);
+    return offer_timestamp(state, &f);
+}
+
+static gw_answer own_of_snapshot(gw_state *state, const char *version)
+{
+    const file f = snapshot_of(version, "1", "1");
+    return offer_snapshot(state, &f);
+}
+
+static gw_answer other_listed_by_snapshot(gw_state *state, const char *version)
+{
+    const file f = snapshot_of("1", version, "1");
+    return offer_snapshot(state, &f);
+}
+
+static gw_answer targets_listed_by_snapshot(gw_state *state, const char *version)
+{
+    const file f = snapshot_of("1", "1", version);
+    return offer_snapshot(state, &f);
+}
+
+static gw_answer own_of_targets(gw_state *state, const char *version)
+{
+    const file f = targets_of(version);
+    return offer_targets(state, &f);
+}
+
+static gw_answer own_of_found_targets(gw_state *state, const char *version)
+{
+    const file f = targets_of(version);
+    return find_in(state, &f);
+}
+
+/* An offer after an update that has a version at that place: the answer to a lower version, the same, the next and one above that. */
+typedef struct offer {
+    const char *name;
+    gw_answer (*call)(gw_state *state, const char *version);
+    int place;
+    gw_answer lower, same, next, above;
+    int record;          /* where it is accepted, this record .. */
+    uint64_t own;        /* .. has this version; 0 for the one in question */
+    gw_answer find_next; /* what find answers after an accepted higher one */
+} offer;
+
+static const offer OFFERS[] = {
+    {"next root", next_root, OF_ROOT, GW_WRONG_VERSION, GW_WRONG_VERSION, GW_ACCEPTED, GW_WRONG_VERSION, ROOT, 0, GW_ACCEPTED},
+    {"timestamp's own", own_of_timestamp, OF_TIMESTAMP, GW_WRONG_VERSION, GW_NO_NEWS, GW_ACCEPTED, GW_ACCEPTED, TIMESTAMP, 0,
+     GW_ACCEPTED},
+    {"snapshot.json", listed_by_timestamp, OF_SNAPSHOT, GW_WENT_BACK, GW_ACCEPTED, GW_ACCEPTED, GW_ACCEPTED, TIMESTAMP, 2,
+     GW_NOT_HELD},
+    {"snapshot's own", own_of_snapshot, OF_SNAPSHOT, GW_WRONG_VERSION, GW_ACCEPTED, GW_WRONG_VERSION, GW_WRONG_VERSION, SNAPSHOT, 0,
+     GW_ACCEPTED},
+    {"other.json", other_listed_by_snapshot, OF_OTHER, GW_WENT_BACK, GW_ACCEPTED, GW_ACCEPTED, GW_ACCEPTED, SNAPSHOT, 1, GW_ACCEPTED},
+    {"targets.json", targets_listed_by_snapshot, OF_TARGETS, GW_WENT_BACK, GW_ACCEPTED, GW_ACCEPTED, GW_ACCEPTED, SNAPSHOT, 1,
+     GW_NOT_HELD},
+    {"targets' own", own_of_targets, OF_TARGETS, GW_WRONG_VERSION, GW_ACCEPTED, GW_WRONG_VERSION, GW_WRONG_VERSION, TARGETS_FILE, 0,
+     GW_ACCEPTED},
+    {"find's targets", own_of_found_targets, OF_TARGETS, GW_OTHER_CONTENT, GW_ACCEPTED, GW_OTHER_CONTENT, GW_OTHER_CONTENT,
+     TARGETS_FILE, 0, GW_ACCEPTED},
+};
+
+static gw_answer stated_answer(const offer *o, uint64_t before, uint64_t offered)
+{
+    if (offered == 0) {
+        return GW_BAD_FORM;
+    }
+    if (offered <= before) {
+        return offered == before ? o->same : o->lower;
+    }
+    return offered == before + 1 ? o->next : o->above;
+}
+
+/* What is held after the update. */
+static record_versions after_update(int place, uint64_t version)
+{
+    static const int RECORD[PLACES] = {ROOT, TIMESTAMP, SNAPSHOT, RECORDS, TARGETS_FILE}; /* of the other name no version is held */
+    record_versions v = {{1, 1, 1, 1}};
+    if (RECORD[place] != RECORDS) {
+        v.of[RECORD[place]] = version;
+    }
+    return v;
+}
+
+static void offered_after(const offer *o, const number *before, const number *n)
+{
+    file targets;
+    gw_state state = updated(o->place, before, &targets);
+    record_versions stated = after_update(o->place, before->value);
+    const gw_answer answer = stated_answer(o, before->value, n->value);
+    char what[128];
+
+    snprintf(what, sizeof what, "%s: %s, then %s", o->name, before->written, n->written);
+    expect_versions(__LINE__, what, &stated, &state);
+    expect(__LINE__, what, answer, o->call(&state, n->written));
+    if (answer == GW_ACCEPTED) {
+        stated.of[o->record] = o->own ? o->own : n->value;
+    }
+    expect_versions(__LINE__, what, &stated, &state);
+    expect(__LINE__, what, answer == GW_ACCEPTED && n->value > before->value ? o->find_next : GW_ACCEPTED, find_in(&state, &targets));
+}
+
+static void versions_at_each_place(void)
+{
+    size_t i, k, m;
+    for (i = 0; i < sizeof OFFERS / sizeof *OFFERS; i++) {
+        for (k = 0; k < NUMBER_COUNT; k++) {
+            for (m = 0; NUMBERS[k].value && m < NUMBER_COUNT; m++) {
+                offered_after(&OFFERS[i], &NUMBERS[k], &NUMBERS[m]);
+            }
+        }
+    }
+}
+
+/* ---- Lengths stay within 32 bits */
+
+#define LENGTH_1 "\"length\":4294967295,\"version\":1"
+
+static void lengths(void)
+{
+    static const char FITS[] = "\"length\":4294967295", BEYOND[] = "\"length\":4294967296";
+    const file root = root_of("1"), timestamp = timestamp_of("1", "1"), snapshot = snapshot_of("1", "1", "1");
+    const file in_timestamp = written(SMALL_TIMESTAMP("1", LENGTH_1)), in_targets = written(SMALL_TARGETS("1", LISTED("i", 4294967295)));
+    const file of_other = written(SMALL_SNAPSHOT("1", LENGTH_1, "\"version\":1"));
+    const file of_targets = written(SMALL_SNAPSHOT("1", "\"version\":1", LENGTH_1));
+    const file beyond_in_timestamp = changed(in_timestamp, FITS, BEYOND), beyond_in_targets = changed(in_targets, FITS, BEYOND);
+    const file beyond_of_other = changed(of_other, FITS, BEYOND), beyond_of_targets = changed(of_targets, FITS, BEYOND);
+    gw_state state, listing;
+
+    EXPECT(GW_ACCEPTED, install_small(&state, &root));
+    EXPECT(GW_BAD_FORM, offer_timestamp(&state, &beyond_in_timestamp));
+    listing = state;
+    EXPECT(GW_ACCEPTED, offer_timestamp(&listing, &in_timestamp));
+    EXPECT(GW_OTHER_CONTENT, offer_snapshot(&listing, &snapshot));
+    EXPECT(GW_ACCEPTED, offer_timestamp(&state, &timestamp));
+
+    EXPECT(GW_BAD_FORM, offer_snapshot(&state, &beyond_of_other));
+    EXPECT(GW_BAD_FORM, offer_snapshot(&state, &beyond_of_targets));
+    listing = state;
+    EXPECT(GW_ACCEPTED, offer_snapshot(&listing, &of_targets));
+    EXPECT(GW_OTHER_CONTENT, offer_targets(&listing, &in_targets));
+    EXPECT(GW_ACCEPTED, offer_snapshot(&state, &of_other));
+
+    EXPECT(GW_BAD_FORM, offer_targets(&state, &beyond_in_targets));
+    EXPECT(GW_ACCEPTED, offer_targets(&state, &in_targets));
+    EXPECT(4294967295, found(&state, in_targets.at, in_targets.len, text("i"), 1).length);
+}
+
 /* ---- Keyids: each is the digest of its key, tried after the form (3) and before spec_version (4) */
 
 /* The file with that digit of root-a's keyid changed in each of its places. The keyid is the last of the key table, and stays so. */
@@ -530,6 +890,9 @@ int main(int argc, char **argv)
     a_stolen_laptop();
     names_compared();
     no_names_compared();
+    versions_of_whole_updates();
+    versions_at_each_place();
+    lengths();
     keyids();
     order_of_keyids();
     sha256();
