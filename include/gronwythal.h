@@ -117,7 +117,7 @@ typedef struct gw_entry {
     uint8_t sig[GW_SIGNATURE_SIZE];
 } gw_entry;
 
-/* A record's version, where the record is held; else 0. */
+/* A record's version, 1 to 9,007,199,254,740,991, where the record is held; else 0. */
 typedef struct gw_version {
     bool held;
     uint64_t number;

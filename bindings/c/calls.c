@@ -423,21 +423,22 @@ static void no_names_compared(void)
 #define KEY "{\"keytype\":\"ed25519\",\"keyval\":{\"public\":\"" B_16 B_16 B_16 B_16 "\"},\"scheme\":\"ed25519\"}"
 #define KEYID "72164dd0dd21502e17f1d57bfb21b4a44ec536df765ca2c57fdc9514846c4a7c" /* the digest of KEY, by sha256sum */
 #define ONE_KEY "{\"keyids\":[\"" KEYID "\"],\"threshold\":1}"
+#define EXPIRES "\"expires\":\"2030-01-01T00:00:00Z\""
 
 #define SMALL(signed_part) \
     "{\"signatures\":[{\"keyid\":\"" KEYID "\",\"sig\":\"" ONES_64 ONES_64 "\"}],\"signed\":" signed_part "}"
 #define SMALL_ROOT(version) \
-    SMALL("{\"_type\":\"root\",\"consistent_snapshot\":false,\"expires\":\"2030-01-01T00:00:00Z\",\"keys\":{\"" KEYID "\":" KEY "}," \
+    SMALL("{\"_type\":\"root\",\"consistent_snapshot\":false," EXPIRES ",\"keys\":{\"" KEYID "\":" KEY "}," \
           "\"roles\":{\"root\":" ONE_KEY ",\"snapshot\":" ONE_KEY ",\"targets\":" ONE_KEY ",\"timestamp\":" ONE_KEY "}," \
           "\"spec_version\":\"1\",\"version\":" version "}")
 #define SMALL_TIMESTAMP(version, snapshot) \
-    SMALL("{\"_type\":\"timestamp\",\"expires\":\"2030-01-01T00:00:00Z\",\"meta\":{\"snapshot.json\":{" snapshot "}}," \
+    SMALL("{\"_type\":\"timestamp\"," EXPIRES ",\"meta\":{\"snapshot.json\":{" snapshot "}}," \
           "\"spec_version\":\"1\",\"version\":" version "}")
 #define SMALL_SNAPSHOT(version, other, targets) \
-    SMALL("{\"_type\":\"snapshot\",\"expires\":\"2030-01-01T00:00:00Z\",\"meta\":{\"other.json\":{" other "},\"targets.json\":{" targets "}}," \
+    SMALL("{\"_type\":\"snapshot\"," EXPIRES ",\"meta\":{\"other.json\":{" other "},\"targets.json\":{" targets "}}," \
           "\"spec_version\":\"1\",\"version\":" version "}")
 #define SMALL_TARGETS(version, images) \
-    SMALL("{\"_type\":\"targets\",\"expires\":\"2030-01-01T00:00:00Z\",\"spec_version\":\"1\",\"targets\":{" images "},\"version\":" version "}")
+    SMALL("{\"_type\":\"targets\"," EXPIRES ",\"spec_version\":\"1\",\"targets\":{" images "},\"version\":" version "}")
 
 /* Versions are given as files write them: some are beyond every type. */
 static file root_of(const char *version)
@@ -495,9 +496,8 @@ static gw_answer offer_targets(gw_state *state, const file *f)
 
 static gw_answer find_in(const gw_state *state, const file *f)
 {
-    const gw_image image = found(state, f->at, f->len, text("i"), 1);
-    EXPECT(image.answer == GW_ACCEPTED ? 5 : 0, image.length);
-    return (gw_answer)image.answer;
+    gw_image image;
+    return gw_find(state, f->at, f->len, text("i"), 1, &image);
 }
 
 typedef struct number {
@@ -514,7 +514,7 @@ static const number NUMBERS[] = {
     {"2147483648", UINT64_C(2147483648)},
     {"4294967295", UINT64_C(4294967295)},
     {"4294967296", UINT64_C(4294967296)},
-    {"4294967297", UINT64_C(4294967297)}, /* this and the next differ from 1 and 2 in the upper half alone */
+    {"4294967297", UINT64_C(4294967297)}, /* this and the next differ from 1 and 2 in the upper 32 bits alone */
     {"4294967298", UINT64_C(4294967298)},
     {"20260101120000", UINT64_C(20260101120000)}, /* made from a date */
     {"9007199254740990", UINT64_C(9007199254740990)},
@@ -528,22 +528,25 @@ static const number NUMBERS[] = {
 
 enum { NUMBER_COUNT = sizeof NUMBERS / sizeof *NUMBERS };
 
-/* The four held versions, each by itself. */
+/* The four versions by themselves, too large for held(): 0 for one that is not held */
+
 enum { ROOT, TIMESTAMP, SNAPSHOT, TARGETS_FILE, RECORDS };
 
-typedef struct record_versions {
+typedef struct held_versions {
     uint64_t of[RECORDS];
-} record_versions;
+} held_versions;
 
-static void expect_versions(int line, const char *what, const record_versions *stated, const gw_state *state)
+static bool holds(const gw_state *state, const held_versions *stated)
 {
     const gw_versions v = gw_held(state);
     const gw_version given[RECORDS] = {v.root, v.timestamp, v.snapshot, v.targets};
     int i;
     for (i = 0; i < RECORDS; i++) {
-        expect(line, what, (long long)stated->of[i], (long long)given[i].number);
-        expect(line, what, stated->of[i] != 0, given[i].held);
+        if (given[i].number != stated->of[i] || given[i].held != (stated->of[i] != 0)) {
+            return false;
+        }
     }
+    return true;
 }
 
 /* An update in which every version is this one. */
@@ -551,32 +554,33 @@ static void whole_update(const number *n)
 {
     const file root = root_of(n->written), timestamp = timestamp_of(n->written, n->written);
     const file snapshot = snapshot_of(n->written, n->written, n->written), targets = targets_of(n->written);
-    record_versions stated = {{0, 0, 0, 0}};
+    held_versions stated = {{0, 0, 0, 0}};
     gw_state state;
 
     expect(__LINE__, n->written, GW_ACCEPTED, install_small(&state, &root));
     stated.of[ROOT] = n->value;
-    expect_versions(__LINE__, n->written, &stated, &state);
+    expect(__LINE__, n->written, true, holds(&state, &stated));
     expect(__LINE__, n->written, GW_ACCEPTED, offer_timestamp(&state, &timestamp));
     stated.of[TIMESTAMP] = n->value;
-    expect_versions(__LINE__, n->written, &stated, &state);
+    expect(__LINE__, n->written, true, holds(&state, &stated));
     expect(__LINE__, n->written, GW_ACCEPTED, offer_snapshot(&state, &snapshot));
     stated.of[SNAPSHOT] = n->value;
-    expect_versions(__LINE__, n->written, &stated, &state);
+    expect(__LINE__, n->written, true, holds(&state, &stated));
     expect(__LINE__, n->written, GW_ACCEPTED, offer_targets(&state, &targets));
     stated.of[TARGETS_FILE] = n->value;
-    expect_versions(__LINE__, n->written, &stated, &state);
+    expect(__LINE__, n->written, true, holds(&state, &stated));
     expect(__LINE__, n->written, GW_ACCEPTED, find_in(&state, &targets));
+    expect(__LINE__, n->written, 5, (long long)found(&state, targets.at, targets.len, text("i"), 1).length);
 }
 
-/* An install gives the blank state where the number is not a version. */
+/* A first root whose number is not a version. */
 static void refused_install(const number *n)
 {
-    const record_versions none = {{0, 0, 0, 0}};
+    const held_versions none = {{0, 0, 0, 0}};
     const file root = root_of(n->written);
     gw_state state;
     expect(__LINE__, n->written, GW_BAD_FORM, install_small(&state, &root));
-    expect_versions(__LINE__, n->written, &none, &state);
+    expect(__LINE__, n->written, true, holds(&state, &none));
 }
 
 static void versions_of_whole_updates(void)
@@ -591,28 +595,40 @@ static void versions_of_whole_updates(void)
     }
 }
 
-/* What an update has: the versions of root and timestamp, and those listed, of snapshot, another name and the targets file. */
+/* The versions of an update: those of root and timestamp, and those that are listed, of snapshot, another name and targets. */
 enum { OF_ROOT, OF_TIMESTAMP, OF_SNAPSHOT, OF_OTHER, OF_TARGETS, PLACES };
 
-/* The state after an update in which the version at that place is this one, and every other is 1; and its targets file. */
-static gw_state updated(int place, const number *n, file *targets)
+typedef struct update {
+    const number *version; /* at one place; at every other it is 1 */
+    file targets;
+    gw_state state; /* after the update */
+    held_versions held;
+} update;
+
+static update updated(int place, const number *n)
 {
+    const uint64_t v = n->value;
+    const held_versions held_after[PLACES] = {{{v, 1, 1, 1}}, {{1, v, 1, 1}}, {{1, 1, v, 1}}, {{1, 1, 1, 1}}, {{1, 1, 1, v}}};
     const char *at[PLACES] = {"1", "1", "1", "1", "1"};
     file root, timestamp, snapshot;
-    gw_state state;
+    update u;
+
     at[place] = n->written;
     root = root_of(at[OF_ROOT]);
     timestamp = timestamp_of(at[OF_TIMESTAMP], at[OF_SNAPSHOT]);
     snapshot = snapshot_of(at[OF_SNAPSHOT], at[OF_OTHER], at[OF_TARGETS]);
-    *targets = targets_of(at[OF_TARGETS]);
-    expect(__LINE__, n->written, GW_ACCEPTED, install_small(&state, &root));
-    expect(__LINE__, n->written, GW_ACCEPTED, offer_timestamp(&state, &timestamp));
-    expect(__LINE__, n->written, GW_ACCEPTED, offer_snapshot(&state, &snapshot));
-    expect(__LINE__, n->written, GW_ACCEPTED, offer_targets(&state, targets));
-    return state;
+    u.version = n;
+    u.targets = targets_of(at[OF_TARGETS]);
+    u.held = held_after[place];
+    expect(__LINE__, n->written, GW_ACCEPTED, install_small(&u.state, &root));
+    expect(__LINE__, n->written, GW_ACCEPTED, offer_timestamp(&u.state, &timestamp));
+    expect(__LINE__, n->written, GW_ACCEPTED, offer_snapshot(&u.state, &snapshot));
+    expect(__LINE__, n->written, GW_ACCEPTED, offer_targets(&u.state, &u.targets));
+    expect(__LINE__, n->written, true, holds(&u.state, &u.held));
+    return u;
 }
 
-/* The offers: a file with the version in question at one place. */
+/* Files with the version in question at one place */
 
 static gw_answer next_root(gw_state *state, const char *version)
 {
@@ -662,15 +678,15 @@ static gw_answer own_of_found_targets(gw_state *state, const char *version)
     return find_in(state, &f);
 }
 
-/* An offer after an update that has a version at that place: the answer to a lower version, the same, the next and one above that. */
+/* A file after an update with some version at `place`: the answers where it has a lower one, the same, the next, and one above the next */
 typedef struct offer {
     const char *name;
     gw_answer (*call)(gw_state *state, const char *version);
     int place;
     gw_answer lower, same, next, above;
-    int record;          /* where it is accepted, this record .. */
-    uint64_t own;        /* .. has this version; 0 for the one in question */
-    gw_answer find_next; /* what find answers after an accepted higher one */
+    int record;       /* an accepted file is held here .. */
+    uint64_t own;     /* .. with this version; 0 for the one in question */
+    gw_answer higher; /* what find answers after an accepted version that is higher */
 } offer;
 
 static const offer OFFERS[] = {
@@ -690,53 +706,52 @@ static const offer OFFERS[] = {
      TARGETS_FILE, 0, GW_ACCEPTED},
 };
 
-static gw_answer stated_answer(const offer *o, uint64_t before, uint64_t offered)
+static gw_answer stated_answer(const offer *o, uint64_t before, uint64_t version)
 {
-    if (offered == 0) {
+    if (version == 0) {
         return GW_BAD_FORM;
     }
-    if (offered <= before) {
-        return offered == before ? o->same : o->lower;
+    if (version <= before) {
+        return version == before ? o->same : o->lower;
     }
-    return offered == before + 1 ? o->next : o->above;
+    return version == before + 1 ? o->next : o->above;
 }
 
-/* What is held after the update. */
-static record_versions after_update(int place, uint64_t version)
+/* That file after the update, and then a find in the update's own targets file. */
+static void offered(const offer *o, const update *u, const number *n)
 {
-    static const int RECORD[PLACES] = {ROOT, TIMESTAMP, SNAPSHOT, RECORDS, TARGETS_FILE}; /* of the other name no version is held */
-    record_versions v = {{1, 1, 1, 1}};
-    if (RECORD[place] != RECORDS) {
-        v.of[RECORD[place]] = version;
-    }
-    return v;
-}
-
-static void offered_after(const offer *o, const number *before, const number *n)
-{
-    file targets;
-    gw_state state = updated(o->place, before, &targets);
-    record_versions stated = after_update(o->place, before->value);
-    const gw_answer answer = stated_answer(o, before->value, n->value);
+    const uint64_t before = u->version->value;
+    const gw_answer answer = stated_answer(o, before, n->value);
+    const bool rises = answer == GW_ACCEPTED && n->value > before;
+    gw_state state = u->state;
+    held_versions held_after = u->held;
     char what[128];
 
-    snprintf(what, sizeof what, "%s: %s, then %s", o->name, before->written, n->written);
-    expect_versions(__LINE__, what, &stated, &state);
+    snprintf(what, sizeof what, "%s: %s, then %s", o->name, u->version->written, n->written);
     expect(__LINE__, what, answer, o->call(&state, n->written));
     if (answer == GW_ACCEPTED) {
-        stated.of[o->record] = o->own ? o->own : n->value;
+        held_after.of[o->record] = o->own ? o->own : n->value;
     }
-    expect_versions(__LINE__, what, &stated, &state);
-    expect(__LINE__, what, answer == GW_ACCEPTED && n->value > before->value ? o->find_next : GW_ACCEPTED, find_in(&state, &targets));
+    expect(__LINE__, what, true, holds(&state, &held_after));
+    expect(__LINE__, what, rises ? o->higher : GW_ACCEPTED, find_in(&state, &u->targets));
+}
+
+static void offered_after(const offer *o, const number *version)
+{
+    const update u = updated(o->place, version);
+    size_t i;
+    for (i = 0; i < NUMBER_COUNT; i++) {
+        offered(o, &u, &NUMBERS[i]);
+    }
 }
 
 static void versions_at_each_place(void)
 {
-    size_t i, k, m;
+    size_t i, k;
     for (i = 0; i < sizeof OFFERS / sizeof *OFFERS; i++) {
         for (k = 0; k < NUMBER_COUNT; k++) {
-            for (m = 0; NUMBERS[k].value && m < NUMBER_COUNT; m++) {
-                offered_after(&OFFERS[i], &NUMBERS[k], &NUMBERS[m]);
+            if (NUMBERS[k].value) {
+                offered_after(&OFFERS[i], &NUMBERS[k]);
             }
         }
     }
@@ -823,7 +838,7 @@ static void order_of_keyids(void)
     EXPECT(GW_OTHER_KEYID, gw_install(&state, misnamed.at, misnamed.len, GOOD, 1, MORNING));
 }
 
-/* ---- SHA-256, by NIST's examples for FIPS 180-4: no bytes, "abc", 448 and 896 bits, a million bytes, and four at the end of a block */
+/* ---- SHA-256, by NIST's examples for FIPS 180-4: no bytes, "abc", 448 and 896 bits, a million bytes, and held_versions at the end of a block */
 
 typedef struct vector {
     const char *unit; /* repeated so many times */

@@ -177,7 +177,8 @@ fn version(told: raw::Version) -> Option<u64> {
     told.held.then_some(told.number)
 }
 
-/// What a state holds: each record's version, and the start time in force, in seconds from 1970-01-01T00:00:00Z.
+/// What a state holds: each record's version, 1 to 9,007,199,254,740,991, and the start time in force, in seconds from
+/// 1970-01-01T00:00:00Z.
 #[derive(Clone, Copy, Debug, PartialEq, Eq)]
 pub struct Versions {
     /// The root's version, if one is held.

@@ -10,8 +10,8 @@ use std::fmt::Display;
 
 const HIGHEST: u64 = 9_007_199_254_740_991;
 
-/// Both ends, both sides of the limit before A7 and of 32 bits, two that differ from 1 and 2 in the upper half of 64 bits alone, and one
-/// made from a date.
+/// Both ends, both sides of the limit before A7 and of 32 bits, two that differ from 1 and 2 in the upper 32 bits alone, and one made from
+/// a date.
 const VERSIONS: [u64; 11] = [
     1,
     2,
