@@ -838,7 +838,7 @@ static void order_of_keyids(void)
     EXPECT(GW_OTHER_KEYID, gw_install(&state, misnamed.at, misnamed.len, GOOD, 1, MORNING));
 }
 
-/* ---- SHA-256, by NIST's examples for FIPS 180-4: no bytes, "abc", 448 and 896 bits, a million bytes, and held_versions at the end of a block */
+/* ---- SHA-256, by NIST's examples for FIPS 180-4: no bytes, "abc", 448 and 896 bits, a million bytes, and four at the end of a block */
 
 typedef struct vector {
     const char *unit; /* repeated so many times */
