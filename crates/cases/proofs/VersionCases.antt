@@ -3,7 +3,6 @@ use mathlib.Core.Path.{refl}
 use mathlib.Core.List.{List, [], _∷_}
 use Prim.Native.Nat.{ℕ}
 use Prim.Native.String.{String}
-use Rattle.base.specs.Bytes.{Bytes}
 use Rattle.base.specs.Hex.{undo}
 use Rattle.sha256.proofs.Computing.{digests}
 use Rattle.rules.specs.Records.{Read, refused, says, badForm}

@@ -1,12 +1,10 @@
--- Versions (A7): which are read, exactly; and that a file which was read holds no others, as its own or in what it lists. So no root follows
--- the one of the highest version.
+-- Versions (A7): which are read, exactly; and that a file which was read holds no others, as its own or in what it lists.
 use mathlib.Core.Path.{_≡_, ap, _∙_, subst}
 use mathlib.Core.Logic.{_↔_}
 use mathlib.Core.Option.{Option, some, bind}
 use mathlib.Core.Bool.{Bool, _&&_}
-use mathlib.Core.List.{List, [], _∷_, map, List·Memᴰ, List·Memᴰ·head, List·Memᴰ·tail}
-use Prim.Native.Nat.{ℕ, _+_, _≤_}
-use native.Mathlib.Omega.{arith}
+use mathlib.Core.List.{List, [], _∷_, List·Memᴰ·head, List·Memᴰ·tail}
+use Prim.Native.Nat.{ℕ}
 use lib.Dec.{leb}
 use lib.ListN.{length}
 use Rattle.base.specs.Bytes.{Bytes, bytes}
@@ -17,11 +15,11 @@ use Rattle.rules.specs.Take.{must, sole, eachNamed, nameOf}
 use Rattle.rules.specs.Records.{Listed, Named, Image, File, says}
 use Rattle.rules.specs.Forms.{version, fileOf, listed, named, names, root, timestamp, snapshot, targets, rootKeyids}
 use Rattle.rules.specs.Reading.{noTable, readAs, readRoot, readTimestamp, readSnapshot, readTargets}
-use Rattle.rules.specs.State.{Root, Timestamp, Snapshot, State, keepRoot, keepTimestamp, keepSnapshot, keepTargets, rootIn, timestampIn, snapshotIn, targetsIn, RootOffer, newRoot}
-use Rattle.rules.specs.Steps.{answer, aRoot, aTimestamp, aSnapshot, aTargets}
+use Rattle.rules.specs.State.{Root, Timestamp, Snapshot, keepRoot, keepTimestamp, keepSnapshot, keepTargets, rootIn, timestampIn, snapshotIn, targetsIn}
+use Rattle.rules.specs.Steps.{aRoot, aTimestamp, aSnapshot, aTargets}
 use Rattle.rules.specs.Words.{IsVersion, AllVersions}
 use Rattle.rules.specs.History.{listedVersions, versionsOf}
-use Rattle.rules.proofs.OptionLaws.{none-not-some, some-is, had, kept-is, number-exactly}
+use Rattle.rules.proofs.OptionLaws.{some-is, had, kept-is, number-exactly}
 use Rattle.rules.proofs.ReadingLaws.{role-file, body-is, kept-says}
 
 -- ## The form "version"
@@ -111,8 +109,7 @@ timestamp-versions file t es h =
     subst (λ (x : Timestamp). AllVersions (versionsOf (aTimestamp x))) (f .2)
     (one-more _ _ (w .1) (one-more _ _ (sole-listed (w .0) (f .0 .body) (w .2)) no-versions))
 
-each-listed : (ms : Members) (ns : List Named) → eachNamed named ms ≡ some ns
-    → AllVersions (listedVersions ns)
+each-listed : (ms : Members) (ns : List Named) → eachNamed named ms ≡ some ns → AllVersions (listedVersions ns)
 unfolding eachNamed
 each-listed mnil ns e = subst (λ (l : List Named). AllVersions (listedVersions l)) (some-is e) no-versions
 each-listed (mcons name v ms) ns e =
@@ -121,8 +118,7 @@ each-listed (mcons name v ms) ns e =
     subst (λ (l : List Named). AllVersions (listedVersions l)) (some-is (more .2))
     (one-more _ _ (listed-version v (a .0 .listed) (named-is name v (a .0) (a .1) .1)) (each-listed ms (more .0) (more .1)))
 
-all-listed : (v : Json) (ns : List Named) → snapshot v ≡ some ns
-    → AllVersions (listedVersions ns)
+all-listed : (v : Json) (ns : List Named) → snapshot v ≡ some ns → AllVersions (listedVersions ns)
 unfolding snapshot must names
 all-listed v ns e =
     let meta = had _ _ e in
