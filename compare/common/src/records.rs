@@ -11,8 +11,8 @@ pub const MAX_FILE: usize = 32_768;
 /// "at most 16 entries"
 pub const MAX_ENTRIES: usize = 16;
 
-/// "version" 1 to 2,147,483,647
-pub const VERSIONS: RangeInclusive<u64> = 1..=2_147_483_647;
+/// "version" 1 to 2,147,483,647; since A7 "from 1 to 9,007,199,254,740,991"
+pub const VERSIONS: RangeInclusive<u64> = 1..=9_007_199_254_740_991;
 
 /// "length" (0 to 4,294,967,295)
 pub const LENGTHS: RangeInclusive<u64> = 0..=4_294_967_295;

@@ -111,9 +111,10 @@ mod files_to_try {
         }
     }
 
+    /// 01's case "Held 2,147,483,647: no next root exists", with A7's largest version.
     #[test]
-    fn no_next_root_after_2147483647() {
-        let highest = 2_147_483_647;
+    fn no_next_root_after_9007199254740991() {
+        let highest = 9_007_199_254_740_991;
         let mut state = installed(&Root::new(highest - 1));
         assert_eq!(state.root(&Root::new(highest).file(&[1]), &[1], &[1]), Ok(()));
         assert_eq!(
@@ -124,6 +125,28 @@ mod files_to_try {
             state.root(&Root::new(highest + 1).file(&[1]), &[1], &[1]),
             Err(BrokenForm)
         );
+    }
+
+    /// A7: "The office's new tool numbers files like 20260101120000". Held 2,147,483,647 has a next root now.
+    #[test]
+    fn versions_made_from_dates() {
+        let mut state = installed(&Root::new(2_147_483_647));
+        assert_eq!(state.root(&Root::new(2_147_483_648).file(&[1]), &[1], &[1]), Ok(()));
+        let date = 20_260_101_120_000;
+        let mut state = complete();
+        assert_eq!(state.timestamp(&timestamp_file(date, date + 1), &[1]), Ok(()));
+        assert_eq!(state.timestamp(&timestamp_file(date, date + 1), &[1]), Err(NoNews));
+        assert_eq!(state.timestamp(&timestamp_file(4, 6), &[1]), Err(WrongVersion));
+        assert_eq!(state.timestamp(&timestamp_file(date + 1, date), &[1]), Err(WentBack));
+        assert_eq!(found(&state, b"image"), Err(NotHeld));
+        let names = [("a", date + 3), ("targets.json", date + 2)];
+        assert_eq!(state.snapshot(&snapshot_file(date, &names), &[1]), Err(WrongVersion));
+        assert_eq!(state.snapshot(&snapshot_file(date + 1, &names), &[1]), Ok(()));
+        let lower = [("a", date + 2), ("targets.json", date + 2)];
+        assert_eq!(state.snapshot(&snapshot_file(date + 1, &lower), &[1]), Err(WentBack));
+        assert_eq!(state.targets(&targets_file(7), &[1]), Err(WrongVersion));
+        assert_eq!(state.targets(&targets_file(date + 2), &[1]), Ok(()));
+        assert!(found_in(&state, date + 2, b"image").is_ok());
     }
 
     #[test]
@@ -550,6 +573,16 @@ mod broken_forms {
     const SNAPSHOT: Reader = |file| forms::snapshot(file).map(|_| ());
     const TARGETS: Reader = |file| forms::targets(file).map(|_| ());
 
+    /// Both ends of the range, 01's highest version and the one above it, and one made from a date.
+    const SOUND_VERSIONS: [u64; 6] = [
+        1,
+        2_147_483_647,
+        2_147_483_648,
+        20_260_101_120_000,
+        9_007_199_254_740_990,
+        9_007_199_254_740_991,
+    ];
+
     /// Reads the signed part with each pair's first text replaced by its second, which has to end with the answer.
     fn replaced(reader: Reader, signed: &str, answer: Result<(), Refusal>, pairs: &[(&str, &str)]) {
         assert_eq!(reader(&file(&[1], signed)), Ok(()), "{signed}");
@@ -582,14 +615,21 @@ mod broken_forms {
             let versions = [
                 "\"version\":0}",
                 "\"version\":-1}",
-                "\"version\":2147483648}",
+                "\"version\":9007199254740992}",
+                "\"version\":9007199254740993}",
+                "\"version\":18446744073709551617}",
                 "\"version\":99999999999999999999999}",
                 "\"version\":\"1\"}",
                 "\"version!\":1}",
             ];
+            let with = |version: &str| format!("{}{version}", signed.strip_suffix("\"version\":1}").unwrap());
             for version in versions {
-                let text = format!("{}{version}", signed.strip_suffix("\"version\":1}").unwrap());
+                let text = with(version);
                 assert_eq!(reader(&file(&[1], &text)), Err(BrokenForm), "{text}");
+            }
+            for version in SOUND_VERSIONS {
+                let text = with(&format!("\"version\":{version}}}"));
+                assert_eq!(reader(&file(&[1], &text)), Ok(()), "{text}");
             }
         }
         assert_eq!(ROOT(&file(&[1], &targets)), Err(BrokenForm));
@@ -676,7 +716,6 @@ mod broken_forms {
         let sha256 = hex::written(&digest(1));
         let with = |listed: &str| file(&[], &shelf::timestamp(1, EXPIRES, listed));
         for sound in [
-            r#""version":2147483647"#.to_string(),
             r#""length":0,"version":1"#.to_string(),
             r#""length":4294967295,"version":1"#.to_string(),
             format!(r#""hashes":{{"md5":0,"sha256":"{sha256}","sha512":[]}},"version":1,"x":0"#),
@@ -685,9 +724,9 @@ mod broken_forms {
         }
         for broken in [
             "".to_string(),
-            r#""version":2147483648"#.to_string(),
             r#""length":-1,"version":1"#.to_string(),
             r#""length":4294967296,"version":1"#.to_string(),
+            r#""length":9007199254740991,"version":1"#.to_string(),
             r#""length":null,"version":1"#.to_string(),
             r#""hashes":{},"version":1"#.to_string(),
             r#""hashes":null,"version":1"#.to_string(),
@@ -701,6 +740,44 @@ mod broken_forms {
         assert_eq!(TIMESTAMP(&file(&[], &other)), Err(BrokenForm));
         let further = shelf::timestamp(1, EXPIRES, r#""version":1},"x":{"version":1"#);
         assert_eq!(TIMESTAMP(&file(&[], &further)), Err(BrokenForm));
+    }
+
+    #[test]
+    fn of_listed_versions() {
+        let timestamp = |version: &str| {
+            let listed = format!(r#""version":{version}"#);
+            TIMESTAMP(&file(&[], &shelf::timestamp(1, EXPIRES, &listed)))
+        };
+        let snapshot = |one: &str, other: &str| {
+            let names = format!(r#""a":{{"version":{one}}},"targets.json":{{"version":{other}}}"#);
+            SNAPSHOT(&file(&[], &shelf::snapshot(1, EXPIRES, &names)))
+        };
+        let all = |version: &str| [timestamp(version), snapshot(version, "1"), snapshot("1", version)];
+        for sound in SOUND_VERSIONS {
+            assert_eq!(all(&sound.to_string()), [Ok(()); 3], "{sound}");
+        }
+        for broken in [
+            "0",
+            "-1",
+            "9007199254740992",
+            "9007199254740993",
+            "18446744073709551617",
+        ] {
+            assert_eq!(all(broken), [Err(BrokenForm); 3], "{broken}");
+        }
+    }
+
+    /// A7: "Image lengths stay."
+    #[test]
+    fn of_image_lengths() {
+        let with = |length: u64| {
+            let table = shelf::target("image", length, &hex::written(&digest(1)));
+            TARGETS(&file(&[], &shelf::targets(1, EXPIRES, &table)))
+        };
+        assert_eq!(with(4_294_967_295), Ok(()));
+        for length in [4_294_967_296, 20_260_101_120_000, 9_007_199_254_740_991] {
+            assert_eq!(with(length), Err(BrokenForm), "{length}");
+        }
     }
 
     #[test]

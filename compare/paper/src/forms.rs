@@ -12,8 +12,8 @@ use crate::json::{Object, Value};
 use crate::refusal::{Objections, Refusal};
 use crate::sha256;
 
-/// "version" 1 to 2,147,483,647
-const VERSIONS: RangeInclusive<u64> = 1..=2_147_483_647;
+/// "version" 1 to 2,147,483,647; since A7 "from 1 to 9,007,199,254,740,991"
+const VERSIONS: RangeInclusive<u64> = 1..=9_007_199_254_740_991;
 
 /// "length" (0 to 4,294,967,295)
 const LENGTHS: RangeInclusive<u64> = 0..=4_294_967_295;

@@ -253,7 +253,8 @@ fn entry_count(file: &Tree) -> usize {
     }
 }
 
-fn name(kind: Kind) -> &'static str {
+/// The step that takes a file of this kind.
+pub fn name(kind: Kind) -> &'static str {
     match kind {
         Kind::Root => "root",
         Kind::Timestamp => "timestamp",

@@ -53,13 +53,16 @@ pub fn groups() -> Vec<Group> {
 }
 
 fn limits() -> Cases {
-    let parts: [fn(&mut Recorder); 8] = [
+    let parts: [fn(&mut Recorder); 11] = [
         entries,
         keys,
         keyids,
         counts_of_names,
         bytes_of_names,
-        numbers,
+        own_versions,
+        listed_versions,
+        spec_versions,
+        listed_lengths,
         depths,
         lengths,
     ];
@@ -345,29 +348,61 @@ fn bytes_of_names(script: &mut Recorder) {
     }
 }
 
-/// Versions, lengths and spec_version at the ends of their ranges.
-fn numbers(script: &mut Recorder) {
+/// Versions and what is none, as texts: about both ends of the range, and about the end that it had before A7.
+fn versions() -> [(String, u8); 12] {
+    let sound = |version: u64| (version.to_string(), ACCEPTED);
+    let broken = |text: &str| (text.to_string(), BROKEN);
+    [
+        sound(1),
+        sound(2_147_483_647),
+        sound(2_147_483_648),
+        sound(4_294_967_297),
+        sound(HIGHEST_VERSION - 1),
+        sound(HIGHEST_VERSION),
+        broken("0"),
+        broken("-1"),
+        broken(&(HIGHEST_VERSION + 1).to_string()),
+        broken(&(HIGHEST_VERSION + 2).to_string()),
+        broken("18446744073709551617"),
+        broken("\"1\""),
+    ]
+}
+
+/// ""version" 1 to 2,147,483,647"; A7: "from 1 to 9,007,199,254,740,991"
+fn own_versions(script: &mut Recorder) {
     for kind in KINDS {
-        let versions: [(&str, u8); 7] = [
-            ("0", BROKEN),
-            ("-1", BROKEN),
-            ("2147483647", 11),
-            ("2147483648", BROKEN),
-            ("4294967297", BROKEN),
-            ("18446744073709551617", BROKEN),
-            ("\"1\"", BROKEN),
-        ];
-        for (version, answer) in versions {
-            // A timestamp may have any version when none is held.
-            let answer = if kind == Kind::Timestamp && answer == 11 {
-                ACCEPTED
-            } else {
-                answer
-            };
+        for (version, answer) in versions() {
             let mut file = acceptable(kind);
-            *file.member(&["signed", "version"]) = Tree::Raw(version.to_string());
+            *file.member(&["signed", "version"]) = Tree::Raw(version.clone());
+            if kind == Kind::Root {
+                script.stated(forms::install(&file), format!("install {answer}"));
+            }
+            // A timestamp may have any version when none is held. Root 2 is the next one, and version 1 is listed.
+            let is_the_one = kind == Kind::Timestamp || (version == "1" && kind != Kind::Root);
+            let answer = if answer == ACCEPTED && !is_the_one { 11 } else { answer };
             Stage::new(kind).play(script, &file, Some(answer));
         }
+    }
+}
+
+/// "Each gives "version", in the same range"
+fn listed_versions(script: &mut Recorder) {
+    for (version, answer) in versions() {
+        for (kind, name) in [
+            (Kind::Timestamp, "snapshot.json"),
+            (Kind::Snapshot, "targets.json"),
+            (Kind::Snapshot, "a\"\\"),
+        ] {
+            let mut file = acceptable(kind);
+            *file.member(&["signed", "meta", name, "version"]) = Tree::Raw(version.clone());
+            tried(script, kind, &file, answer);
+        }
+    }
+}
+
+/// "exactly `1` or beginning with `1.`"
+fn spec_versions(script: &mut Recorder) {
+    for kind in KINDS {
         for (spec_version, answer) in [
             ("\"1\"", ACCEPTED),
             ("\"1.\"", ACCEPTED),
@@ -393,23 +428,15 @@ fn numbers(script: &mut Recorder) {
             }
         }
     }
-    for (listed, answer) in [
-        (1, ACCEPTED),
-        (HIGHEST_VERSION, ACCEPTED),
-        (0, BROKEN),
-        (HIGHEST_VERSION + 1, BROKEN),
-        (1 << 32, BROKEN),
-        ((1 << 32) + 1, BROKEN),
-    ] {
-        let file = forms::timestamp(1, Listed::version(listed));
-        tried(script, Kind::Timestamp, &file, answer);
-        let file = forms::snapshot(1, Listed::version(listed));
-        tried(script, Kind::Snapshot, &file, answer);
-    }
+}
+
+/// ""length" (0 to 4,294,967,295)"; A7, which widens versions: "Image lengths stay."
+fn listed_lengths(script: &mut Recorder) {
     for (length, answer) in [
         (0, ACCEPTED),
         (4_294_967_295, ACCEPTED),
         (4_294_967_296, BROKEN),
+        (HIGHEST_VERSION, BROKEN),
         (u64::MAX, BROKEN),
     ] {
         let mut listed = Listed::version(1);

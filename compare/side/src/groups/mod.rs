@@ -21,6 +21,7 @@ mod search;
 mod signed;
 mod text;
 mod texts;
+mod versions;
 
 use crate::calls::{Call, Line, Player};
 use crate::compare::{Case, Cases, Group};
@@ -60,6 +61,7 @@ pub fn all() -> Vec<Group> {
         keyids::groups(),
         search::groups(),
         rotation::groups(),
+        versions::groups(),
         named::groups(),
         published::groups(),
         signed::groups(),

@@ -15,6 +15,9 @@ use crate::shelf::sha256::{Digest, digest};
 const NOW: i64 = 1_000_000_000;
 const LATER: i64 = 2_000_000_000;
 
+/// A version that the office's new tool makes from a date (A7).
+const NOON: u64 = 20_260_101_120_000;
+
 /// The group.
 pub fn groups() -> Vec<Group> {
     vec![Group {
@@ -40,10 +43,12 @@ pub fn groups() -> Vec<Group> {
 }
 
 fn by_name() -> Cases {
-    let cases: [fn(&mut Shelf); 20] = [
+    let cases: [fn(&mut Shelf); 22] = [
         two_valid_entries_of_one_key_count_1,
         held_root_4,
         no_next_root_after_the_highest,
+        versions_made_from_dates,
+        roots_made_from_dates,
         expires_1000,
         length_of_a_file,
         empty_targets_list,
@@ -229,16 +234,64 @@ fn no_next_root_after_the_highest(shelf: &mut Shelf) {
         &[1],
         &[1],
         &[1],
-        "0 root=2147483647",
+        &format!("0 root={HIGHEST_VERSION}"),
     );
     for (version, answer) in [
         (HIGHEST_VERSION, "11"),
         (HIGHEST_VERSION - 1, "11"),
         (1, "11"),
         (0, "3"),
+        (1 << 32, "11"),
         (HIGHEST_VERSION + 1, "3"),
-        (1 << 32, "3"),
+        (HIGHEST_VERSION + 2, "3"),
+        (1 << 63, "3"),
     ] {
+        shelf.root(&Root::new(version, LATER), &[1], &[1], &[1], answer);
+    }
+}
+
+/// A7: "The office's new tool numbers files like 20260101120000, beyond our limit." Before it they were numbered by hand.
+fn versions_made_from_dates(shelf: &mut Shelf) {
+    shelf.complete();
+    shelf.timestamp(
+        NOON,
+        NOON + 5,
+        &format!("0 root=1 timestamp={NOON} snapshot=5 targets=7"),
+    );
+    shelf.timestamp(4, 6, "11");
+    shelf.timestamp(NOON, NOON + 5, "12");
+    shelf.timestamp(NOON + 1, 6, "13");
+    shelf.timestamp(NOON + 1, NOON + 4, "13");
+    shelf.find(b"image", refused(6));
+    shelf.targets(7, "6");
+
+    let names = [("a", NOON + 9), ("targets.json", NOON + 7)];
+    shelf.snapshot(6, &names, "11");
+    shelf.snapshot(NOON + 4, &names, "11");
+    let held = format!("root=1 timestamp={NOON} snapshot={}", NOON + 5);
+    shelf.snapshot(NOON + 5, &names, &format!("0 {held} targets=7"));
+    shelf.snapshot(NOON + 5, &[("a", 10), names[1]], "13");
+    shelf.snapshot(NOON + 5, &[names[0], ("targets.json", 8)], "13");
+    shelf.find(b"image", refused(6));
+
+    shelf.targets(8, "11");
+    shelf.targets(NOON + 6, "11");
+    shelf.targets(NOON + 7, &format!("0 {held} targets={}", NOON + 7));
+    shelf.find_in(NOON + 7, b"image", image_found());
+}
+
+/// Roots rise by one, whatever they are numbered by.
+fn roots_made_from_dates(shelf: &mut Shelf) {
+    for (held, version, answer) in [
+        (1, NOON, "11"),
+        (NOON, 2, "11"),
+        (NOON, NOON, "11"),
+        (NOON, NOON + 100, "11"),
+        (NOON, NOON + 1, "0 root=20260101120001"),
+        // Before A7 this was the highest version.
+        (2_147_483_647, 2_147_483_648, "0 root=2147483648"),
+    ] {
+        shelf.install(&Root::new(held, LATER), &[1], &[1], NOW, &format!("0 root={held}"));
         shelf.root(&Root::new(version, LATER), &[1], &[1], &[1], answer);
     }
 }
@@ -617,7 +670,7 @@ fn nothing_falls(shelf: &mut Shelf) {
         &[1],
         &[1],
         &[1],
-        "0 root=2 timestamp=2147483647 snapshot=6 targets=-",
+        &format!("0 root=2 timestamp={HIGHEST_VERSION} snapshot=6 targets=-"),
     );
     shelf.snapshot(6, &[("a", 9), ("b", 1), ("targets.json", 7)], "13");
     shelf.snapshot(6, &[("a", 10), ("b", 1), ("targets.json", 6)], "13");

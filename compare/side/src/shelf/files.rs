@@ -10,8 +10,8 @@ use super::keyids::keyid_of;
 use super::sha256::{Digest, digest};
 use super::tree::{Tree, number, object, text};
 
-/// The highest version there is.
-pub const HIGHEST_VERSION: u64 = 2_147_483_647;
+/// The highest version there is: 2,147,483,647 in document 01, since A7 "9,007,199,254,740,991".
+pub const HIGHEST_VERSION: u64 = 9_007_199_254_740_991;
 
 /// The longest file.
 pub const LONGEST: usize = 32_768;

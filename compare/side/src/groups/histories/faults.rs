@@ -74,6 +74,8 @@ fn other_version(history: &mut History, offer: &mut Offer) {
         held.saturating_sub(1),
         held + 1,
         held + 2,
+        held + (1 << 32),
+        held + 1 + (1 << 32),
         HIGHEST_VERSION - 1,
         HIGHEST_VERSION,
         HIGHEST_VERSION + 1,
@@ -107,8 +109,8 @@ fn other_listing(history: &mut History, offer: &mut Offer) {
         Plan::Timestamp(timestamp) => {
             let listed = &mut timestamp.snapshot;
             match random.below(5) {
-                0 | 1 => listed.version = listed.version.saturating_sub(random.between(1, 2) as u64),
-                2 => listed.version = listed.version.saturating_add(1),
+                0 | 1 => listed.version = lowered(listed.version, random),
+                2 => listed.version = listed.version.saturating_add(random.pick(&[1, 1, 1 << 32])),
                 3 => listed.length = Some(random.below(5_000) as u64),
                 _ => listed.sha256 = Some([random.byte(); 32]),
             }
@@ -123,7 +125,7 @@ fn other_listing(history: &mut History, offer: &mut Offer) {
             if random.one_in(3) {
                 snapshot.meta.remove(name);
             } else if let Some(listed) = snapshot.meta.get_mut(name) {
-                listed.version = listed.version.saturating_sub(random.between(1, 2) as u64);
+                listed.version = lowered(listed.version, random);
             }
         }
         Plan::Targets(targets) => drop(targets.targets.pop_first()),
@@ -139,6 +141,11 @@ fn other_listing(history: &mut History, offer: &mut Offer) {
             }
         }
     }
+}
+
+/// A lower version, some of them with the same low 32 bits.
+fn lowered(version: u64, random: &mut Random) -> u64 {
+    version.saturating_sub(random.pick(&[1, 1, 2, 2, 1 << 32]))
 }
 
 /// A role that names a key twice, one that is not in the table, or too many or too few as enough.

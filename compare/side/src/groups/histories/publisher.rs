@@ -67,12 +67,25 @@ static NUMBERS: LazyLock<BTreeMap<&str, usize>> = LazyLock::new(|| {
     numbers.map(|key| (keyid(key), key)).collect()
 });
 
+/// The first version that is made from a date.
+const FIRST_DATE: u64 = 20_260_101_120_000;
+
+/// How a publisher numbers files.
+#[derive(Clone, Copy, Debug, PartialEq, Eq)]
+enum Numbering {
+    /// By hand, from small numbers on.
+    Small,
+    /// From dates, "like 20260101120000" (A7); the first files may still be numbered by hand.
+    Dates,
+    /// Near the highest version.
+    Highest,
+}
+
 /// The publisher of one history.
 pub struct Publisher {
     root: Root,
     base: i64,
-    /// Whether versions are near the highest.
-    high: bool,
+    numbering: Numbering,
 }
 
 impl Publisher {
@@ -81,7 +94,11 @@ impl Publisher {
         Publisher {
             root: Root::new(1, 0),
             base: random.pick(BASES),
-            high: random.one_in(6),
+            numbering: match random.below(6) {
+                0 => Numbering::Highest,
+                1 | 2 => Numbering::Dates,
+                _ => Numbering::Small,
+            },
         }
     }
 
@@ -184,9 +201,21 @@ impl Publisher {
     }
 
     fn first_version(&self, random: &mut Random) -> u64 {
-        match self.high {
-            true => HIGHEST_VERSION - random.below(4) as u64,
-            false => random.pick(&[1, 1, 2, 4, 9, 10, 99, 255, 65_535]),
+        match self.numbering {
+            Numbering::Highest => HIGHEST_VERSION - random.below(4) as u64,
+            Numbering::Dates if !random.one_in(3) => FIRST_DATE + random.below(1_000_000_000) as u64,
+            _ => random.pick(&[1, 1, 2, 4, 9, 10, 99, 255, 65_535]),
+        }
+    }
+
+    /// So many steps above a version. From one date to another a step has any size.
+    fn raised(&self, version: u64, steps: u64, random: &mut Random) -> u64 {
+        match self.numbering {
+            Numbering::Dates if steps > 0 => {
+                let step = random.pick(&[1, 1, 60, 10_000, 1_000_000, 1 << 32]);
+                version.max(FIRST_DATE) + steps * step
+            }
+            _ => version + steps,
         }
     }
 
@@ -435,7 +464,10 @@ impl Maker<'_> {
     /// A version that goes on from the held one by one of the steps, as far as there are versions.
     fn version(&mut self, held: Option<u64>, steps: &[u64]) -> u64 {
         let version = match held {
-            Some(held) => held + self.random.pick(steps),
+            Some(held) => {
+                let steps = self.random.pick(steps);
+                self.publisher.raised(held, steps, self.random)
+            }
             None => self.publisher.first_version(self.random),
         };
         version.min(HIGHEST_VERSION)
