@@ -62,7 +62,14 @@ fn good_answers_pass() {
     side("", &["--only", "script"]).must_pass("2 passed, 0 failed");
     side("", &["--only", "sha256"]).must_pass("2 passed, 0 failed");
     side("", &["--only", "search"]).must_pass("2 passed, 0 failed");
-    for group in ["keys", "keyids", "images", "history, by name", "published examples"] {
+    for group in [
+        "keys",
+        "keyids",
+        "images",
+        "versions",
+        "history, by name",
+        "published examples",
+    ] {
         side("", &["--only", group]).must_pass("1 passed, 0 failed");
     }
 }
@@ -796,7 +803,17 @@ fn mistakes_are_noticed_by_limits_of_forms() {
             "same-public-taken",
             "4-before-3",
             "spec-version-by-first-digit",
+            "version-0-taken",
             "version-wraps-at-64-bits",
+            "version-without-end",
+            "own-versions-end-at-2147483647",
+            "listed-versions-end-at-2147483647",
+            "own-versions-end-one-early",
+            "listed-versions-end-one-early",
+            "own-versions-end-one-late",
+            "listed-versions-end-one-late",
+            "listed-lengths-follow-versions",
+            "image-lengths-follow-versions",
         ],
     );
 }
@@ -867,6 +884,22 @@ fn mistakes_are_noticed_by_histories_by_name() {
             "long-row-cut",
             "verdicts-above-1-taken",
             "state-hides-targets",
+            "own-versions-end-at-2147483647",
+            "listed-versions-end-at-2147483647",
+            "own-versions-end-one-early",
+            "own-versions-end-one-late",
+            "listed-versions-end-one-late",
+            "own-versions-read-in-32-bits",
+            "listed-versions-read-as-f32",
+            "own-versions-kept-in-32-bits",
+            "listed-versions-kept-in-32-bits",
+            "versions-said-in-32-bits",
+            "roots-compared-in-32-bits",
+            "timestamps-compared-as-f32",
+            "listed-snapshots-compared-as-f32",
+            "snapshots-compared-as-f32",
+            "names-compared-as-f32",
+            "targets-compared-as-f32",
         ],
     );
 }
@@ -893,6 +926,71 @@ fn mistakes_are_noticed_by_rotation() {
             "removed-key-is-no-rotation",
         ],
     );
+}
+
+/// Mistakes about the range of versions, about lengths that get it, and about what is read and kept of a version.
+const MISREAD_VERSIONS: &[&str] = &[
+    "versions-end-at-2147483647",
+    "own-versions-end-at-2147483647",
+    "listed-versions-end-at-2147483647",
+    "versions-end-at-4294967295",
+    "own-versions-end-one-early",
+    "listed-versions-end-one-early",
+    "own-versions-end-one-late",
+    "listed-versions-end-one-late",
+    "version-without-end",
+    "listed-versions-without-end",
+    "version-wraps-at-64-bits",
+    "version-0-taken",
+    "listed-versions-begin-at-0",
+    "own-versions-without-sign",
+    "listed-versions-without-sign",
+    "own-versions-in-quotes",
+    "listed-versions-in-quotes",
+    "own-versions-read-in-32-bits",
+    "listed-versions-read-in-32-bits",
+    "own-versions-read-as-f32",
+    "listed-versions-read-as-f32",
+    "own-versions-kept-in-32-bits",
+    "listed-versions-kept-in-32-bits",
+    "versions-said-in-32-bits",
+    "listed-lengths-follow-versions",
+    "image-lengths-follow-versions",
+];
+
+/// Every comparison of versions, made in every way that loses something.
+fn miscompared_versions() -> Vec<String> {
+    let comparisons = [
+        "roots",
+        "timestamps",
+        "listed-snapshots",
+        "snapshots",
+        "names",
+        "targets",
+        "current-snapshots",
+        "current-targets",
+    ];
+    let ways = ["in-32-bits", "as-i32", "up-to-32-bits", "as-f32"];
+    let mistakes = comparisons.map(|what| ways.map(|how| format!("{what}-compared-{how}")));
+    mistakes.into_iter().flatten().collect()
+}
+
+#[test]
+fn mistakes_are_noticed_by_versions() {
+    must_notice("versions", MISREAD_VERSIONS);
+}
+
+#[test]
+fn wrong_comparisons_are_noticed_by_versions() {
+    let mistakes = miscompared_versions();
+    must_notice("versions", &mistakes.iter().map(String::as_str).collect::<Vec<_>>());
+}
+
+#[test]
+fn mistakes_about_the_range_of_versions_are_noticed_by_histories() {
+    must_notice("histories", MISREAD_VERSIONS);
+    let mistakes = miscompared_versions();
+    must_notice("histories", &mistakes.iter().map(String::as_str).collect::<Vec<_>>());
 }
 
 #[test]

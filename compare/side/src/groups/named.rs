@@ -262,6 +262,8 @@ fn versions_made_from_dates(shelf: &mut Shelf) {
     shelf.timestamp(NOON, NOON + 5, "12");
     shelf.timestamp(NOON + 1, 6, "13");
     shelf.timestamp(NOON + 1, NOON + 4, "13");
+    shelf.timestamp(HIGHEST_VERSION + 1, NOON + 5, "3");
+    shelf.timestamp(NOON + 1, HIGHEST_VERSION + 1, "3");
     shelf.find(b"image", refused(6));
     shelf.targets(7, "6");
 
@@ -271,7 +273,9 @@ fn versions_made_from_dates(shelf: &mut Shelf) {
     let held = format!("root=1 timestamp={NOON} snapshot={}", NOON + 5);
     shelf.snapshot(NOON + 5, &names, &format!("0 {held} targets=7"));
     shelf.snapshot(NOON + 5, &[("a", 10), names[1]], "13");
+    shelf.snapshot(NOON + 5, &[("a", NOON + 8), names[1]], "13");
     shelf.snapshot(NOON + 5, &[names[0], ("targets.json", 8)], "13");
+    shelf.snapshot(NOON + 5, &[names[0], ("targets.json", HIGHEST_VERSION + 1)], "3");
     shelf.find(b"image", refused(6));
 
     shelf.targets(8, "11");

@@ -9,7 +9,7 @@ use super::Recorder;
 use super::finds::{found, refused};
 use super::forms::{self, Kind};
 use crate::compare::{Cases, Group};
-use crate::shelf::files::{self, Header, Listed, Root, Snapshot, Targets};
+use crate::shelf::files::{self, HIGHEST_VERSION, Header, Listed, Root, Snapshot, Targets};
 use crate::shelf::sha256::digest;
 use crate::shelf::tree::{Tree, number};
 
@@ -78,7 +78,7 @@ pub fn groups() -> Vec<Group> {
         name: "versions",
         calls: &["install", "root", "timestamp", "snapshot", "targets", "find"],
         cases: |_| versions(),
-        least: 11_000,
+        least: 9_000,
         shares: &[
             ("install 0", 10),
             ("root 3", 1),
@@ -103,7 +103,7 @@ pub fn groups() -> Vec<Group> {
 }
 
 fn versions() -> Cases {
-    let parts: [fn(&mut Shelf); 12] = [
+    let parts: [fn(&mut Shelf); 13] = [
         all_four,
         first_roots,
         next_roots,
@@ -115,6 +115,7 @@ fn versions() -> Cases {
         finds,
         current_snapshots,
         current_targets,
+        blank_state,
         lengths,
     ];
     Box::new(parts.into_iter().flat_map(|part| {
@@ -124,7 +125,7 @@ fn versions() -> Cases {
     }))
 }
 
-/// Each file has a number of its own, and so has each name that is listed.
+/// Each file has a number of its own, and so has each name that is listed. The next root drops nothing.
 fn all_four(shelf: &mut Shelf) {
     for first in 0..VERSIONS.len() {
         let version = |place: usize| VERSIONS[(first + place) % VERSIONS.len()];
@@ -133,6 +134,8 @@ fn all_four(shelf: &mut Shelf) {
         shelf.snapshot(version(2), [3, 4, 5].map(version), ACCEPTED);
         shelf.targets(version(4), ACCEPTED);
         shelf.find(version(4), ACCEPTED);
+        let is_last = version(0) == HIGHEST_VERSION;
+        shelf.root(version(0) + 1, if is_last { BROKEN } else { ACCEPTED });
     }
 }
 
@@ -271,6 +274,26 @@ fn current_targets(shelf: &mut Shelf) {
     }
 }
 
+/// "On a blank state every step but install, new cycle and image ends at 6 unless 1 to 5 hold."
+fn blank_state(shelf: &mut Shelf) {
+    shelf.install(0, BROKEN);
+    let versions = VERSIONS.map(|version| (version.to_string(), NOT_CURRENT));
+    let others = OTHERS.map(|(other, refusal)| (other.to_string(), refusal));
+    for (number, answer) in versions.into_iter().chain(others) {
+        shelf.root(&number, answer);
+        shelf.timestamp(&number, 1, answer);
+        shelf.timestamp("1", &number, answer);
+        shelf.snapshot(&number, ["1"; 3], answer);
+        for place in 0..NAMES.len() {
+            let mut listed = ["1"; 3];
+            listed[place] = &number;
+            shelf.snapshot("1", listed, answer);
+        }
+        shelf.targets(&number, answer);
+        shelf.find(&number, answer);
+    }
+}
+
 /// "Image lengths stay.": "0 to 4,294,967,295", and so do those that are listed for files.
 fn lengths(shelf: &mut Shelf) {
     shelf.complete(5, 7);
@@ -334,23 +357,23 @@ fn rising_pairs() -> impl Iterator<Item = (u64, u64)> {
     VERSIONS.into_iter().enumerate().flat_map(above)
 }
 
-/// A script, and what is held after it: the versions of root, timestamp, snapshot and targets as they were written.
+/// A script, and what is held after it: the versions of root, timestamp, snapshot and targets as they were written, and the
+/// start time.
 #[derive(Default)]
 struct Shelf {
     script: Recorder,
     held: [Option<String>; 4],
+    time: i64,
 }
 
 impl Shelf {
     /// Installs a root. A refused one returns the blank state.
     fn install(&mut self, version: impl Display, answer: u8) {
-        self.held = [const { None }; 4];
-        let mut time = i64::MIN;
-        if answer == ACCEPTED {
-            self.held[0] = Some(version.to_string());
-            time = NOW;
-        }
-        let stated = format!("install {answer} {} time={time}", self.words());
+        (self.held, self.time) = match answer {
+            ACCEPTED => ([Some(version.to_string()), None, None, None], NOW),
+            _ => (Default::default(), i64::MIN),
+        };
+        let stated = format!("install {answer} {}", self.words());
         self.script.stated(forms::install(&root_file(version)), stated);
     }
 
@@ -388,7 +411,7 @@ impl Shelf {
         if answer == ACCEPTED {
             self.held[kind as usize] = Some(version.to_string());
         }
-        let stated = format!("{} {answer} {} time={NOW}", forms::name(kind), self.words());
+        let stated = format!("{} {answer} {}", forms::name(kind), self.words());
         self.script.stated(forms::offered(kind, file), stated);
     }
 
@@ -401,10 +424,11 @@ impl Shelf {
         self.find(targets, ACCEPTED);
     }
 
-    /// What is said of the held versions.
+    /// What every answer of a step says of the state.
     fn words(&self) -> String {
         let [root, timestamp, snapshot, targets] = self.held.each_ref().map(|held| held.as_deref().unwrap_or("-"));
-        format!("root={root} timestamp={timestamp} snapshot={snapshot} targets={targets}")
+        let time = self.time;
+        format!("root={root} timestamp={timestamp} snapshot={snapshot} targets={targets} time={time}")
     }
 }
 

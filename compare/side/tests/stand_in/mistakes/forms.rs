@@ -4,6 +4,7 @@
 use paper::forms;
 use paper::json::{Number, Object, Value};
 use paper::script::{Call, Script};
+use side::shelf::files::HIGHEST_VERSION;
 
 use super::{file_of, with_file};
 
@@ -163,7 +164,7 @@ fn careless_signed(mistake: &str, signed: &mut Object, call: &Call) -> Option<()
         }
         "version-without-end" => {
             let version = signed.get("version")?.within(1..=u64::MAX)?;
-            signed.insert("version".to_string(), number(version.min(2_147_483_647)));
+            signed.insert("version".to_string(), number(version.min(HIGHEST_VERSION)));
         }
         "expires-unchecked" => {
             if paper::date::seconds(signed.get("expires")?.string()?.as_bytes()).is_none() {

@@ -8,6 +8,7 @@ mod questions;
 mod search;
 mod steps;
 mod texts;
+mod versions;
 
 use paper::script::{Call, Script};
 
@@ -19,6 +20,7 @@ pub fn answer(mistake: &str, script: &mut Script, call: &Call) -> Option<String>
         .or_else(|| questions::answer(mistake, script, call))
         .or_else(|| search::answer(mistake, script, call))
         .or_else(|| keyids::answer(mistake, script, call))
+        .or_else(|| versions::answer(mistake, script, call))
         .or_else(|| steps::answer(mistake, script, call))
         .or_else(|| forms::answer(mistake, script, call))
 }

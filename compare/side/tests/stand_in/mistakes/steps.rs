@@ -43,7 +43,7 @@ pub fn answer(mistake: &str, script: &mut Script, call: &Call) -> Option<String>
 }
 
 /// The answer and the next state as if another state had been there. What the call does not change stays as it was.
-fn answer_in(script: &mut Script, leaned_on: State, call: &Call) -> String {
+pub fn answer_in(script: &mut Script, leaned_on: State, call: &Call) -> String {
     let before = std::mem::replace(&mut script.state, leaned_on.clone());
     let answer = script.call(call);
     let after = &mut script.state;
@@ -72,7 +72,7 @@ fn answer_in(script: &mut Script, leaned_on: State, call: &Call) -> String {
 }
 
 /// ` root=V ..` of the state in force.
-fn held(script: &mut Script) -> String {
+pub fn held(script: &mut Script) -> String {
     let answer = script.call(&Call::State);
     let last = answer.lines().last().unwrap_or_default();
     last.trim_start_matches("state").to_string()
@@ -378,7 +378,8 @@ fn never_expires(header: &mut Header) {
     header.expires = i64::MAX;
 }
 
-fn listed_targets(state: &mut State, change: impl FnOnce(&mut forms::Listed)) {
+/// Changes what is listed for `targets.json`, if a snapshot is held.
+pub fn listed_targets(state: &mut State, change: impl FnOnce(&mut forms::Listed)) {
     if let Some(listed) = state
         .snapshot
         .as_mut()
