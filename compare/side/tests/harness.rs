@@ -988,9 +988,43 @@ fn wrong_comparisons_are_noticed_by_versions() {
 
 #[test]
 fn mistakes_about_the_range_of_versions_are_noticed_by_histories() {
-    must_notice("histories", MISREAD_VERSIONS);
-    let mistakes = miscompared_versions();
-    must_notice("histories", &mistakes.iter().map(String::as_str).collect::<Vec<_>>());
+    must_notice(
+        "histories",
+        &[
+            "own-versions-end-at-2147483647",
+            "listed-versions-end-at-2147483647",
+            "own-versions-end-one-early",
+            "listed-versions-end-one-early",
+            "own-versions-end-one-late",
+            "listed-versions-end-one-late",
+            "own-versions-kept-in-32-bits",
+            "listed-versions-kept-in-32-bits",
+            "listed-lengths-follow-versions",
+            "image-lengths-follow-versions",
+        ],
+    );
+}
+
+#[test]
+fn wrong_comparisons_of_versions_are_noticed_by_histories() {
+    must_notice(
+        "histories",
+        &[
+            "roots-compared-in-32-bits",
+            "roots-compared-as-f32",
+            "timestamps-compared-in-32-bits",
+            "timestamps-compared-as-f32",
+            "listed-snapshots-compared-in-32-bits",
+            "snapshots-compared-in-32-bits",
+            "snapshots-compared-as-f32",
+            "names-compared-in-32-bits",
+            "names-compared-as-f32",
+            "targets-compared-in-32-bits",
+            "targets-compared-as-f32",
+            "current-snapshots-compared-in-32-bits",
+            "current-targets-compared-as-f32",
+        ],
+    );
 }
 
 #[test]
