@@ -29,6 +29,7 @@ pub const MISTAKES: &[&str] = &[
     "digest",
     "digest-of-longer-messages",
     "held-version",
+    "held-version-in-32-bits",
     "version-of-what-is-not-held",
     "start-time",
     "refused-install-keeps-the-state",
@@ -86,6 +87,7 @@ impl Library for StandIn {
         let mut held = Held::of(state);
         match self.mistake {
             "held-version" => held.versions[2].1 = held.versions[2].1.min(65_535),
+            "held-version-in-32-bits" => held.versions[1].1 %= 1 << 32,
             "version-of-what-is-not-held" if held.versions[3].0 == 0 => held.versions[3].1 = held.versions[2].1,
             "start-time" => held.start = held.start.max(-62_167_219_200),
             _ => {}

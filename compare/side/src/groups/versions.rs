@@ -63,6 +63,7 @@ const OTHERS: [(&str, u8); 18] = [
 const ACCEPTED: u8 = 0;
 const NOT_CANONICAL: u8 = 2;
 const BROKEN: u8 = 3;
+/// "not held, or not current"
 const NOT_CURRENT: u8 = 6;
 const DIFFERS: u8 = 8;
 const WRONG_VERSION: u8 = 11;
@@ -277,17 +278,15 @@ fn current_targets(shelf: &mut Shelf) {
 /// "On a blank state every step but install, new cycle and image ends at 6 unless 1 to 5 hold."
 fn blank_state(shelf: &mut Shelf) {
     shelf.install(0, BROKEN);
-    let versions = VERSIONS.map(|version| (version.to_string(), NOT_CURRENT));
-    let others = OTHERS.map(|(other, refusal)| (other.to_string(), refusal));
-    for (number, answer) in versions.into_iter().chain(others) {
+    for (number, answer) in numbers(|_| NOT_CURRENT) {
         shelf.root(&number, answer);
         shelf.timestamp(&number, 1, answer);
-        shelf.timestamp("1", &number, answer);
-        shelf.snapshot(&number, ["1"; 3], answer);
+        shelf.timestamp(1, &number, answer);
+        shelf.snapshot(&number, [1; 3], answer);
         for place in 0..NAMES.len() {
             let mut listed = ["1"; 3];
             listed[place] = &number;
-            shelf.snapshot("1", listed, answer);
+            shelf.snapshot(1, listed, answer);
         }
         shelf.targets(&number, answer);
         shelf.find(&number, answer);
@@ -332,15 +331,20 @@ fn every_pair(
 ) {
     for held in VERSIONS {
         set(shelf, held);
-        let versions = VERSIONS.map(|version| (version.to_string(), judged(held, version)));
-        let others = OTHERS.map(|(other, refusal)| (other.to_string(), refusal));
-        for (offered, answer) in others.into_iter().chain(versions) {
+        for (offered, answer) in numbers(|version| judged(held, version)) {
             offer(shelf, &offered, answer);
             if answer == ACCEPTED {
                 set(shelf, held);
             }
         }
     }
+}
+
+/// Every number as it is written, and what becomes of a file that has it.
+fn numbers(judged: impl Fn(u64) -> u8) -> impl Iterator<Item = (String, u8)> {
+    let versions = VERSIONS.map(|version| (version.to_string(), judged(version)));
+    let others = OTHERS.map(|(other, refusal)| (other.to_string(), refusal));
+    others.into_iter().chain(versions)
 }
 
 fn equal(listed: u64, version: u64) -> u8 {
