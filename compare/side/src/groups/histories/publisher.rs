@@ -208,7 +208,7 @@ impl Publisher {
         }
     }
 
-    /// So many steps above a version. From one date to another a step has any size.
+    /// So many steps above a version. Between versions made from dates the steps are of many sizes.
     fn raised(&self, version: u64, steps: u64, random: &mut Random) -> u64 {
         match self.numbering {
             Numbering::Dates if steps > 0 => {
