@@ -3,7 +3,7 @@ use date::Time;
 ghost use mathlib.Core.Path.{_≡_};
 ghost use Prim.Native.Nat.{min};
 
-// The limits of 01; those of the specs are in rules.
+// The limits of 01 and A7; those of the specs are in rules.
 pub const MAX_FILE: usize = 32768;
 
 pub const MAX_ENTRIES: usize = 16;

@@ -1,4 +1,4 @@
--- The limits of 01, each once.
+-- The limits of 01 and A7, each once.
 use Prim.Native.Nat.{ℕ}
 
 -- "file longer than 32,768 bytes"
