@@ -37,6 +37,8 @@ pub enum Refusal {
     OfferedExpired,
     /// "not listed"
     NotListed,
+    /// A8: "A new cycle with an earlier one", than "the latest start time it has had".
+    EarlierStart,
 }
 
 impl Refusal {
@@ -59,6 +61,7 @@ impl Refusal {
             Refusal::OfferedExpired => 14,
             Refusal::NotListed => 15,
             Refusal::OtherKeyid => 16,
+            Refusal::EarlierStart => 17,
         }
     }
 }
@@ -117,6 +120,7 @@ mod tests {
             (Refusal::WentBack, 13),
             (Refusal::OfferedExpired, 14),
             (Refusal::NotListed, 15),
+            (Refusal::EarlierStart, 17),
         ];
         for (refusal, number) in rows {
             assert_eq!(refusal.number(), number);

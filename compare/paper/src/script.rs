@@ -254,8 +254,8 @@ impl Script {
                 self.step("install", number)
             }
             Call::Cycle(time) => {
-                self.state.cycle(*time);
-                self.step("cycle", 0)
+                let result = self.state.cycle(*time);
+                self.step("cycle", number_of(&result))
             }
             Call::Root {
                 file,

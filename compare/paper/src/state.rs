@@ -77,9 +77,14 @@ impl State {
         })
     }
 
-    /// "New cycle: always succeeds."
-    pub fn cycle(&mut self, time: i64) {
+    /// New cycle (17). A8: one with an earlier start time than "the latest start time it has had" is refused; "an equal one
+    /// passes". None is set but by an accepted install or cycle, so the one in force is the latest.
+    pub fn cycle(&mut self, time: i64) -> Result<(), Refusal> {
+        let mut objections = Objections::default();
+        objections.add_if(time < self.time, Refusal::EarlierStart);
+        objections.first()?;
         self.time = time;
+        Ok(())
     }
 
     /// Root (1 to 6, 9, 10, 11, 16), with a row of verdicts under the held root's keys and one under its own.
