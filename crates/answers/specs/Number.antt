@@ -1,7 +1,7 @@
--- The number of each answer: 01's table, and A1.
+-- The number of each answer: 01's table, A1 and A8.
 use Prim.Native.Nat.{ℕ}
 use Rattle.answers.specs.declared.Answer.{Answer}
-use Rattle.answers.specs.declared.Answer.the-variants.{Accepted, TooLong, NotText, BadForm, OtherSpec, BadArgument, NotHeld, HeldExpired, OtherContent, FewHeldKeys, FewOwnKeys, WrongVersion, NoNews, WentBack, FileExpired, NotListed, OtherKeyid}
+use Rattle.answers.specs.declared.Answer.the-variants.{Accepted, TooLong, NotText, BadForm, OtherSpec, BadArgument, NotHeld, HeldExpired, OtherContent, FewHeldKeys, FewOwnKeys, WrongVersion, NoNews, WentBack, FileExpired, NotListed, OtherKeyid, EarlierStart}
 
 abbrev pub numberOf : Answer → ℕ
 -- "0 if none"
@@ -38,7 +38,9 @@ numberOf FileExpired = 14
 numberOf NotListed = 15
 -- A1: a keyid in a key table is not the digest of its key
 numberOf OtherKeyid = 16
+-- A8: a new cycle's start time is earlier than the latest one that the state has had
+numberOf EarlierStart = 17
 
 -- the highest number of an answer
 abbrev pub highest : ℕ
-highest = 16
+highest = 17

@@ -21,6 +21,7 @@ pub enum Answer {
     FileExpired,
     NotListed,
     OtherKeyid,
+    EarlierStart,
 }
 
 // 01's number.
@@ -45,6 +46,7 @@ pub fn number(a: Answer) -> u8
         Answer::FileExpired => 14,
         Answer::NotListed => 15,
         Answer::OtherKeyid => 16,
+        Answer::EarlierStart => 17,
     }
 }
 
@@ -69,6 +71,7 @@ pub fn numbered(n: u8) -> Answer
         13 => Answer::WentBack,
         14 => Answer::FileExpired,
         15 => Answer::NotListed,
-        16..=255 => Answer::OtherKeyid,
+        16 => Answer::OtherKeyid,
+        17..=255 => Answer::EarlierStart,
     }
 }

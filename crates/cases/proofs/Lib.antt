@@ -5,4 +5,6 @@ pub mod RunCases
 pub mod VersionCases
 pub mod ListedCases
 pub mod WitnessFiles
+pub mod WitnessSteps
 pub mod Witness
+pub mod ClockWitness

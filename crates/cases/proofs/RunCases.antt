@@ -134,10 +134,15 @@ steps =
     -- everything expires
     ∷ step (full root1 (pos 0) kept) (newCycle end) gives (0, full root1 end kept)
     ∷ step (full root1 end kept) (stamp "1" "2") gives (7, full root1 end kept)
+    -- A8: "an earlier one is refused with the new number 17 and changes nothing; an equal one passes"
+    ∷ step (full root1 end kept) (newCycle (pos 0)) gives (17, full root1 end kept)
+    ∷ step (full root1 end kept) (newCycle end) gives (0, full root1 end kept)
     -- "On a blank state every step but install, new cycle and image ends at 6"; "A cycle on a blank state sets only that time"
     ∷ step blank (find (record { file = goodsFile; path = bytes "a/b" })) gives (6, blank)
     ∷ step blank (askKey k) gives (6, blank)
     ∷ step blank (newCycle (pos 7)) gives (0, withStart blank (pos 7))
+    ∷ step blank (newCycle (blank .start)) gives (0, blank)
+    ∷ step (withStart blank (pos 7)) (newCycle (pos 6)) gives (17, withStart blank (pos 7))
     ∷ []
 
 pub steps-right : Right steps

@@ -3,22 +3,19 @@
 -- root changes nothing but the threshold of the timestamp role (A5), and after it the versions do fall.
 use mathlib.Core.Path.{_≡_, refl, sym, ap, _∙_, subst}
 use mathlib.Core.Option.{Option, none, some}
-use mathlib.Core.Bool.{false, not}
+use mathlib.Core.Bool.{false}
 use mathlib.Core.List.{List, [], _∷_, _++_}
 use Prim.Native.Nat.{ℕ, suc, _≤_, _<_}
 use native.Mathlib.Omega.{arith}
 use lib.IntN.{ℤ, pos}
-use lib.ListN.{length, take, drop}
-use Rattle.base.specs.Bytes.{Bytes, bytes, same}
+use lib.ListN.{take, drop}
+use Rattle.base.specs.Bytes.{Bytes, bytes}
 use Rattle.base.specs.Hex.{digitOf, allHex, isHex, undo}
-use Rattle.base.proofs.ByteLaws.{same-self}
 use Rattle.sha256.specs.Message.{digestOf}
 use Rattle.date.specs.Calendar.{expired}
-use Rattle.rules.specs.Records.{Image, File}
 use Rattle.rules.specs.Forms.{different}
-use Rattle.rules.specs.State.{Root, Timestamp, Snapshot, Targets, State, keepTargets, rootIn, timestampIn, snapshotIn, targetsIn, Row, Install, RootOffer, FileOffer, Query, Call, newCycle, newRoot, newTimestamp, newSnapshot, newTargets, find, askKey, askState}
-use Rattle.rules.specs.Table.{_when_, first}
-use Rattle.rules.specs.Steps.{installTable, rootTable, timestampTable, snapshotTable, targetsTable, findTable, keyTable, installAnswer, answer, next, installed, rootAlone, withStart, withRoot, withTimestamp, withSnapshot, withTargets, aRoot, aTimestamp, aSnapshot, aTargets, offered, trusting, started, afterRoot}
+use Rattle.rules.specs.State.{Root, Timestamp, Snapshot, Targets, State, keepTargets, Row, Install, FileOffer, Call, newCycle, newRoot, newTimestamp, newSnapshot, newTargets, find, askKey, askState}
+use Rattle.rules.specs.Steps.{installTable, installAnswer, answer, next, installed, rootAlone, withStart, withRoot, withTimestamp, withSnapshot, withTargets, aTimestamp, offered}
 use Rattle.rules.specs.Words.{GoodRow, Enough, Keeps}
 use Rattle.rules.specs.History.{History, run, end, Event, calls, events, happened, Apart, Unrotated, BecomesTrusted, atCall, Idle, Plan, afterRoots, atTimestamp, atSnapshot, atTargets, lastRoot, Fresh, Honest, Through}
 use Rattle.cases.proofs.Texts.{k, l}
@@ -27,10 +24,11 @@ use Rattle.rules.proofs.OptionLaws.{none-not-some, some-is}
 use Rattle.rules.proofs.ListLaws.{different-true}
 use Rattle.rules.proofs.WordLaws.{row-good, fresh-exactly, passes-enough, keeps-exactly, matches-exactly}
 use Rattle.rules.proofs.TableLaws.{one-held, judged-is}
-use Rattle.rules.proofs.NextLaws.{next-trusting, next-refused, next-same, says-what}
-use Rattle.rules.proofs.ExactlyLaws.{next-cycle, install-after}
+use Rattle.rules.proofs.NextLaws.{says-what}
+use Rattle.rules.proofs.ExactlyLaws.{install-after}
 use Rattle.history.proofs.Demand3.{apart-at, demand3}
-use Rattle.cases.proofs.WitnessFiles.{a, b, only, pair, rootText, rootAt, versionText, fullText, versionOnly, full, timestampText, timestampAt, snapshotText, targetsText, targetsAt, imageText, anImage, plainNames, moreNames, lowNames, fullNames, snapshotDigest, low, complete, targets-digest, snapshot-digest, Says, readings}
+use Rattle.cases.proofs.WitnessFiles.{a, b, only, pair, rootText, rootAt, versionText, fullText, versionOnly, full, timestampText, timestampAt, snapshotText, targetsText, targetsAt, imageText, anImage, plainNames, moreNames, lowNames, fullNames, snapshotDigest, low, complete, targets-digest, snapshot-digest, readings}
+use Rattle.cases.proofs.WitnessSteps.{Goes, Chain, stop, step, chain-run, answersOf, chain-answers, chain-answer, root-goes, timestamp-goes, snapshot-goes, targets-goes, root-refused, timestamp-refused, targets-refused, find-goes, cycle-goes, cycle-refused, state-goes, key-goes, not-other, as-listed}
 
 -- ## The calls
 
@@ -79,114 +77,6 @@ theCalls =
     ∷ askKey k
     ∷ []
 
--- ## Each call in its turn
-
--- what a call answers, and the state after it
-record Goes (s : State) (c : Call) (n : ℕ) (s′ : State) : Type 0 where
-  answers : answer s c ≡ n
-  becomes : next s c ≡ s′
-
--- some calls, what they answer, and the state after them
-data Chain : State → List Call → List ℕ → State → Type 0 where
-  stop : {s : State} → Chain s [] [] s
-  step : {s s′ s″ : State} {c : Call} {cs : List Call} {n : ℕ} {ns : List ℕ} → Goes s c n s′ → Chain s′ cs ns s″
-      → Chain s (c ∷ cs) (n ∷ ns) s″
-
-chain-run : {s s′ : State} {cs : List Call} {ns : List ℕ} → Chain s cs ns s′ → run s cs ≡ s′
-unfolding run
-chain-run stop = refl
-chain-run (step {cs} g rest) = ap (λ (s : State). run s cs) (g .becomes) ∙ chain-run rest
-
--- what some calls answer, one after the other
-unfoldable pub answersOf : State → List Call → List ℕ
-answersOf s [] = []
-answersOf s (c ∷ cs) = answer s c ∷ answersOf (next s c) cs
-
-chain-answers : {s s′ : State} {cs : List Call} {ns : List ℕ} → Chain s cs ns s′ → answersOf s cs ≡ ns
-unfolding answersOf
-chain-answers stop = refl
-chain-answers (step {cs} g rest) = rw (g .answers, g .becomes, chain-answers rest)
-
--- the answer of one of the calls, after some that answered ns
-chain-answer : {s s′ : State} (before : List Call) (ns : List ℕ) (c : Call) (cs : List Call) (n : ℕ) (ms : List ℕ)
-    → length before ≡ length ns → Chain s (before ++ (c ∷ cs)) (ns ++ (n ∷ ms)) s′ → answer (run s before) c ≡ n
-unfolding run
-chain-answer [] [] c cs n ms e (step g rest) = g .answers
-chain-answer [] (m ∷ ns) c cs n ms e rest = absurd (omega arith)
-chain-answer (x ∷ before) [] c cs n ms e rest = absurd (omega arith)
-chain-answer (x ∷ before) (m ∷ ns) c cs n ms e (step g rest) =
-    ap (λ (s : State). answer (run s before) c) (g .becomes) ∙ chain-answer before ns c cs n ms (omega arith) rest
-
--- a refused call, of an answer 1 or more
-refused-goes : {s : State} {c : Call} {n : ℕ} → answer s c ≡ suc n → Goes s c (suc n) s
-refused-goes {s} {c} e = record { answers = e; becomes = next-refused s c (λ (z : answer s c ≡ 0). absurd (omega arith)) }
-
-root-goes : {s : State} (held r : Root) {o : RootOffer} → s .root ≡ some held → Says rootIn (o .file) r
-    → first (rootTable s o r (a ∷ b ∷ [])) ≡ 0 → Goes s (newRoot o) 0 (withRoot s held r)
-unfolding answer offered trusting started afterRoot
-root-goes {s} held r {o} h reads e =
-    let zero = judged-is (rootTable s o) reads ∙ e in
-    record { answers = zero; becomes = next-trusting s (newRoot o) (aRoot r) (says-what aRoot reads) zero ∙ rw h }
-
-timestamp-goes : {s : State} (t : Timestamp) {o : FileOffer} → Says timestampIn (o .file) t
-    → first (timestampTable s o t (a ∷ b ∷ [])) ≡ 0 → Goes s (newTimestamp o) 0 (withTimestamp s t)
-unfolding answer offered trusting started
-timestamp-goes {s} t {o} reads e =
-    let zero = judged-is (timestampTable s o) reads ∙ e in
-    record { answers = zero; becomes = next-trusting s (newTimestamp o) (aTimestamp t) (says-what aTimestamp reads) zero }
-
-snapshot-goes : {s : State} (n : Snapshot) {o : FileOffer} → Says snapshotIn (o .file) n
-    → first (snapshotTable s o n (a ∷ b ∷ [])) ≡ 0 → Goes s (newSnapshot o) 0 (withSnapshot s n)
-unfolding answer offered trusting started
-snapshot-goes {s} n {o} reads e =
-    let zero = judged-is (snapshotTable s o) reads ∙ e in
-    record { answers = zero; becomes = next-trusting s (newSnapshot o) (aSnapshot n) (says-what aSnapshot reads) zero }
-
-targets-goes : {s : State} (g : File (List Image)) {o : FileOffer} → Says targetsIn (o .file) g
-    → first (targetsTable s o g (a ∷ b ∷ [])) ≡ 0 → Goes s (newTargets o) 0 (withTargets s (keepTargets (o .file) g))
-unfolding answer offered trusting started
-targets-goes {s} g {o} reads e =
-    let zero = judged-is (targetsTable s o) reads ∙ e in
-    record {
-      answers = zero;
-      becomes =
-          next-trusting s (newTargets o) (aTargets (keepTargets (o .file) g))
-          (says-what (λ x. aTargets (keepTargets (o .file) x)) reads) zero;
-    }
-
-root-refused : {s : State} {n : ℕ} (r : Root) {o : RootOffer} → Says rootIn (o .file) r
-    → first (rootTable s o r (a ∷ b ∷ [])) ≡ suc n → Goes s (newRoot o) (suc n) s
-unfolding answer
-root-refused {s} r {o} reads e = refused-goes (judged-is (rootTable s o) reads ∙ e)
-
-timestamp-refused : {s : State} {n : ℕ} (t : Timestamp) {o : FileOffer} → Says timestampIn (o .file) t
-    → first (timestampTable s o t (a ∷ b ∷ [])) ≡ suc n → Goes s (newTimestamp o) (suc n) s
-unfolding answer
-timestamp-refused {s} t {o} reads e = refused-goes (judged-is (timestampTable s o) reads ∙ e)
-
-targets-refused : {s : State} {n : ℕ} (g : File (List Image)) {o : FileOffer} → Says targetsIn (o .file) g
-    → first (targetsTable s o g (a ∷ b ∷ [])) ≡ suc n → Goes s (newTargets o) (suc n) s
-unfolding answer
-targets-refused {s} g {o} reads e = refused-goes (judged-is (targetsTable s o) reads ∙ e)
-
-find-goes : {s : State} (g : File (List Image)) {q : Query} → Says targetsIn (q .file) g
-    → first (findTable s q g (a ∷ b ∷ [])) ≡ 0 → Goes s (find q) 0 s
-unfolding answer offered started
-find-goes {s} g {q} reads e =
-    record { answers = judged-is (findTable s q) reads ∙ e; becomes = next-same s (find q) refl refl }
-
-key-goes : {s : State} {k : Bytes} → first (keyTable s k) ≡ 0 → Goes s (askKey k) 0 s
-unfolding answer offered started
-key-goes {s} {k} e = record { answers = e; becomes = next-same s (askKey k) refl refl }
-
--- a digest that is the listed one
-not-other : (x y : Bytes) → x ≡ y → not (same x y) ≡ false
-not-other x y e = rw (e, same-self y)
-
-as-listed : (x y : Bytes) → x ≡ y → first (8 when not (same x y) ∷ []) ≡ 0
-unfolding first
-as-listed x y e = rw (not-other x y e)
-
 -- ## The history
 
 abbrev pub at : Root → Option Timestamp → Option Snapshot → Option Targets → ℤ → State
@@ -229,7 +119,7 @@ install-answers = judged-is (installTable theInstall) (readings .root1)
 abbrev pub theHistory : History
 theHistory = record { install = theInstall; accepted = install-answers; calls = theCalls }
 
-installed-is : installed theInstall ≡ at (rootAt 1 1 a) none none none (pos 1000)
+pub installed-is : installed theInstall ≡ at (rootAt 1 1 a) none none none (pos 1000)
 unfolding rootAlone
 installed-is = install-after theInstall (rootAt 1 1 a) (a ∷ b ∷ []) (readings .root1) install-answers
 
@@ -300,7 +190,7 @@ abbrev pub both : List Bytes
 both = a ∷ b ∷ []
 
 -- a fourth root, then a timestamp that lists length and digest of its snapshot, which lists those of its targets; with a refused root, new
--- cycles and a call that only reads between
+-- cycles, a refused one of them (A8) and a call that only reads between
 abbrev pub plan : Plan
 plan =
     record {
@@ -331,7 +221,7 @@ plan =
           };
       targets =
           record {
-            between = newCycle (pos 3000) ∷ [];
+            between = newCycle (pos 3000) ∷ newCycle (pos 2999) ∷ [];
             offer = offer (targetsText "2" imageText) byB;
             file = targetsAt 2 (anImage ∷ []);
             entries = both;
@@ -349,20 +239,13 @@ before₂ = at (rootAt 4 2 b) (some (timestampAt 2 (full snapshotDigest 699 3)))
 abbrev pub before₃ : State
 before₃ = at (rootAt 4 2 b) (some (timestampAt 2 (full snapshotDigest 699 3))) (some complete) (some held1) (pos 3000)
 
-cycle-goes : {s : State} {t : ℤ} → Goes s (newCycle t) 0 (withStart s t)
-cycle-goes {s} {t} = let w = next-cycle s t in record { answers = w .0; becomes = w .1 }
-
-state-goes : {s : State} → Goes s askState 0 s
-unfolding answer offered started
-state-goes {s} = record { answers = refl; becomes = next-same s askState refl refl }
-
 root-again : Goes theEnd (aNewRoot (rootText "3" "2" l)) 11 theEnd
 unfolding tables
 root-again = root-refused (rootAt 3 2 b) (readings .root3) refl
 
 at-timestamp : atTimestamp theEnd plan ≡ before₁
 unfolding tables run afterRoots withRoot withStart
-at-timestamp = chain-run (step root-again (step (root-goes (rootAt 3 2 b) (rootAt 4 2 b) refl (readings .root4) refl) (step cycle-goes stop)))
+at-timestamp = chain-run (step root-again (step (root-goes (rootAt 3 2 b) (rootAt 4 2 b) refl (readings .root4) refl) (step (cycle-goes refl) stop)))
 
 at-snapshot : atSnapshot theEnd plan ≡ before₂
 unfolding tables run withTimestamp
@@ -373,8 +256,10 @@ at-snapshot =
 at-targets : atTargets theEnd plan ≡ before₃
 unfolding tables run withSnapshot withStart
 at-targets =
-    ap (λ (s : State). run (next s (newSnapshot (plan .snapshot .offer))) (newCycle (pos 3000) ∷ [])) at-snapshot
-    ∙ chain-run (step (snapshot-goes complete (readings .snapshot3) (as-listed _ _ snapshot-digest)) (step cycle-goes stop))
+    ap (λ (s : State). run (next s (newSnapshot (plan .snapshot .offer))) (newCycle (pos 3000) ∷ newCycle (pos 2999) ∷ [])) at-snapshot
+    ∙ chain-run
+    (step (snapshot-goes complete (readings .snapshot3) (as-listed _ _ snapshot-digest))
+    (step (cycle-goes refl) (step (cycle-refused refl) stop)))
 
 -- calls by which no file becomes trusted
 refused-idle : {s s′ : State} {c : Call} {n : ℕ} → Goes s c (suc n) s′ → Idle s c
@@ -425,7 +310,7 @@ honest-end =
       quietRoots = ((refused-idle root-again, tt), tt);
       quietTimestamp = (none-idle refl, tt);
       quietSnapshot = (none-idle refl, tt);
-      quietTargets = (none-idle refl, tt);
+      quietTargets = (none-idle refl, (none-idle refl, tt));
       timestampRow = row-both;
       snapshotRow = row-a;
       targetsRow = row-b;

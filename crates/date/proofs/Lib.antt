@@ -4,3 +4,4 @@ pub mod FormLaws
 pub mod CalendarLaws
 pub mod Examples
 pub mod DateLaws
+pub mod OrderLaws

@@ -1,4 +1,4 @@
--- The dates of 01 ("Dates"), in its order: the text's form, the calendar, the count of seconds, expiry.
+-- The dates of 01 ("Dates"), in its order: the text's form, the calendar, the count of seconds, expiry; and A8's order of start times.
 -- Days are counted by adding up the lengths of the years and months that have passed.
 use Prim.Native.Nat.{ℕ, zero, suc, _+_, _-_, _*_, _%_}
 use mathlib.Core.Bool.{Bool, true, false, cond, not, _&&_, _||_}
@@ -7,7 +7,7 @@ use mathlib.Core.Option.{Option, none, some}
 use lib.ListN.{getD}
 use lib.Dec.{leb, eqb}
 use lib.IntN.{ℤ, pos, _-ℤ_}
-use lib.Signed.{leZ}
+use lib.Signed.{ltZ, leZ}
 use Rattle.base.specs.Bytes.{Bytes, bytes, isDigit}
 
 -- "`YYYY-MM-DDTHH:MM:SSZ`, exactly 20 bytes": each 0 stands for a digit, every other byte for itself
@@ -93,3 +93,7 @@ dateOf s =
 -- "Expired means: expires is at or below the start time in force"
 unfoldable pub expired : ℤ → ℤ → Bool
 expired expires start = leZ expires start
+
+-- A8: "an earlier one", of two start times; "an equal one passes"
+unfoldable pub earlier : ℤ → ℤ → Bool
+earlier start latest = ltZ start latest

@@ -4,7 +4,7 @@ ghost use mathlib.Core.Bool.{cond};
 ghost use Prim.Native.Nat.{_+_, _-_, _≤_, _<_};
 ghost use lib.IntN.{pos, _-ℤ_};
 ghost use Rattle.date.specs.Calendar.{form, hasForm, twoDigits, isLeap, monthDays, yearsBefore, firstMonths, timeOf, civilTime, dateOf};
-ghost use Rattle.date.specs.Calendar.{fits as fitsForm, expired as expiredAt};
+ghost use Rattle.date.specs.Calendar.{fits as fitsForm, expired as expiredAt, earlier as earlierThan};
 ghost use Rattle.date.specs.Parts.{DigitsAt, Civil, floorDiv};
 ghost use Rattle.date.specs.View.{viewDate};
 
@@ -29,6 +29,13 @@ impl Time {
         ensures { λ r. ⌜ r ≡ expiredAt (self .seconds) (start .seconds) ⌝ }
     {
         self.seconds <= start.seconds
+    }
+
+    // Whether this start time is earlier than the latest one; an equal one is not.
+    pub fn earlier(self, latest: Time) -> bool
+        ensures { λ r. ⌜ r ≡ earlierThan (self .seconds) (latest .seconds) ⌝ }
+    {
+        self.seconds < latest.seconds
     }
 }
 

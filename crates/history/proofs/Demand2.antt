@@ -7,7 +7,8 @@ use Rattle.rules.specs.Asked.{Found}
 use Rattle.rules.specs.Exactly.{RootRead, InstallExactly, ImageExactly, Demand2}
 use Rattle.rules.specs.History.{History, run, end}
 use Rattle.rules.proofs.NextLaws.{next-refused, next-same}
-use Rattle.rules.proofs.ExactlyLaws.{root-good, good-root, root-after, no-next-root, timestamp-good, good-timestamp, timestamp-after, snapshot-good, good-snapshot, snapshot-after, targets-good, good-targets, targets-after, find-good, good-find, finds, finds-nothing, key-good, good-key, key-given, no-key, image-good, good-image, next-cycle, install-good, good-install, install-after, install-refused}
+use Rattle.rules.proofs.ExactlyLaws.{root-good, good-root, root-after, no-next-root, timestamp-good, good-timestamp, timestamp-after, snapshot-good, good-snapshot, snapshot-after, targets-good, good-targets, targets-after, find-good, good-find, finds, finds-nothing, key-good, good-key, key-given, no-key, image-good, good-image, cycle-good, good-cycle, cycle-after, cycle-earlier, install-good, good-install, install-after, install-refused}
+use Rattle.rules.proofs.ExpiryLaws.{found-fresh, found-expired}
 use Rattle.rules.proofs.SearchLaws.{not-searched, was-searched, find-stops}
 use Rattle.history.proofs.Trusted.{read-next, read-installed}
 
@@ -35,7 +36,9 @@ demand2 s read =
       snapshotAfter = snapshot-after s;
       targets = λ o. (targets-good s o read, λ w. good-targets s o (w .0) (w .1));
       targetsAfter = targets-after s;
-      cycle = next-cycle s;
+      cycle = λ t. (cycle-good s t, good-cycle s t);
+      cycleAfter = cycle-after s;
+      cycleEarlier = cycle-earlier s;
       finds = λ q. (find-good s q, λ w. good-find s q (w .0) (w .1));
       findsImage = finds s;
       findRefused = finds-nothing s;
@@ -48,6 +51,8 @@ demand2 s read =
       findAfter = λ q. next-same s (find q) refl refl;
       keyAfter = λ k. next-same s (askKey k) refl refl;
       stateAfter = (refl, next-same s askState refl refl);
+      foundFresh = found-fresh s read;
+      foundExpired = found-expired s;
       refused = next-refused s;
     }
 

@@ -4,6 +4,7 @@ use mathlib.Core.Logic.{_↔_}
 use mathlib.Core.Option.{some}
 use mathlib.Core.List.{List, [], _∷_, _++_, List·Memᴰ, List·Memᴰ·head, List·Memᴰ·tail}
 use Prim.Native.Nat.{_+_}
+use Rattle.date.proofs.OrderLaws.{≤ℤ-trans}
 use Rattle.base.specs.Bytes.{Bytes}
 use Rattle.base.proofs.TestLaws.{never}
 use Rattle.rules.specs.Records.{Read, says}
@@ -18,7 +19,8 @@ use Rattle.rules.proofs.ExactlyLaws.{install-good, install-after}
 use Rattle.history.proofs.Trusted.{TrustedBy, root, trusted-by, by-trusted, read-next, read-installed}
 use Rattle.history.proofs.Keyids.{own-keyids}
 use Rattle.history.proofs.Versions.{trusted-versions}
-use Rattle.history.proofs.Falls.{Rising, rising-same, rising-trans, rising, roots-rise, timestamps-rise, snapshots-rise, targets-rise}
+use Rattle.history.proofs.Clock.{latest}
+use Rattle.history.proofs.Falls.{Rising, rising-refl, rising-trans, rising, clock-rises, roots-rise, timestamps-rise, snapshots-rise, targets-rise}
 use Rattle.history.proofs.Held.{root-held, timestamp-held, snapshot-held, targets-held}
 use Rattle.history.proofs.Publisher.{through}
 
@@ -64,7 +66,7 @@ apart-at h before c between d after q =
 
 rising-run : (s : State) → RootRead s → (cs : List Call) → Rising s (run s cs)
 unfolding run
-rising-run s read [] = rising-same s s refl
+rising-run s read [] = rising-refl s
 rising-run s read (c ∷ cs) = rising-trans (rising s read c) (rising-run (next s c) (read-next s read c) cs)
 
 -- the state that a call of a history was given
@@ -77,7 +79,7 @@ unfolding events
 reached s₀ read [] s c m = elim m [ ]
 reached s₀ read (b ∷ cs) s c (List·Memᴰ·head q) =
     let same : s₀ ≡ s = cc in
-    subst (λ (x : State). Reached s₀ x) same (record { rises = rising-same s₀ s₀ refl; read = read })
+    subst (λ (x : State). Reached s₀ x) same (record { rises = rising-refl s₀; read = read })
 reached s₀ read (b ∷ cs) s c (List·Memᴰ·tail m) =
     let r = reached (next s₀ b) (read-next s₀ read b) cs s c m in
     record { rises = rising-trans (rising s₀ read b) (r .rises); read = r .read }
@@ -147,6 +149,11 @@ demand3 h =
       keyids = λ e r m t. own-keyids t;
       oneKey = λ e₁ e₂ r₁ r₂ m₁ m₂ t₁ t₂ k l i j. one-key k l (own-keyids t₁ k i) (own-keyids t₂ l j);
       versions = λ e x m t. trusted-versions t;
+      latest = latest h;
+      clockRises = λ e₁ e₂ mid. clock-rises h e₁ e₂ mid;
+      staysExpired =
+          λ s₁ s₂ c₁ c₂ mid x apart found fresh.
+          fresh .fresh (≤ℤ-trans (found .expired) (clock-rises h (calls s₁ c₁) (calls s₂ c₂) mid apart));
       rootExactly =
           λ s′ o r es m reads heldRow ownRow.
           let at = reached s read (h .calls) s′ (newRoot o) (in-events h s′ (newRoot o) m) in

@@ -1,4 +1,4 @@
--- Nothing falls. Two orders on states: `Rising`, of the root, which every call keeps, and `Onward`, of timestamp and snapshot, which every
+-- Nothing falls. Two orders on states: `Rising`, of the root and the clock, which every call keeps, and `Onward`, of timestamp and snapshot, which every
 -- call keeps but an accepted root that rotates their keys. Both are reflexive and transitive, so they hold between any two states of a
 -- history, and a call that trusts a file compares it with the state it was given.
 use mathlib.Core.Path.{_≡_, refl, sym, ap, _∙_, subst}
@@ -9,23 +9,28 @@ use mathlib.Core.List.{List, [], _∷_, _++_, List·Memᴰ·head, List·Memᴰ·
 use Prim.Native.Nat.{_≤_}
 use native.Mathlib.Omega.{arith}
 use native.Mathlib.Nat.{le-trans, le-refl, le-of-lt}
+use lib.IntN.{ℤ}
+use lib.Signed.{_≤ℤ_, ≤ℤ-refl}
+use Rattle.date.proofs.OrderLaws.{≤ℤ-trans}
 use Rattle.rules.specs.Records.{Named}
 use Rattle.rules.specs.State.{Root, Timestamp, Snapshot, Targets, State, keepTargets, Call, newRoot, newTimestamp, newSnapshot, newTargets}
 use Rattle.rules.specs.Conditions.{targetsEntry, rotates}
 use Rattle.rules.specs.Steps.{withRoot, withTimestamp, withSnapshot, withTargets, next, installed, Item, aRoot, aTimestamp, aSnapshot, aTargets}
 use Rattle.rules.specs.Words.{Keeps}
 use Rattle.rules.specs.Exactly.{RootRead}
-use Rattle.rules.specs.History.{History, Event, begins, calls, events, happened, BecomesTrusted, replaces, Rotates, Apart, Unrotated}
+use Rattle.rules.specs.History.{History, Event, begins, calls, events, happened, BecomesTrusted, replaces, Rotates, Apart, Unrotated, inForce}
 use Rattle.rules.proofs.WordLaws.{rotates-exactly, keeps-trans, keeps-targets}
 use Rattle.rules.proofs.TableLaws.{one-held}
 use Rattle.rules.proofs.ExactlyLaws.{root-after, timestamp-after, snapshot-after, targets-after}
 use Rattle.history.proofs.Trusted.{TrustedBy, root, timestamp, snapshot, targets, trusted-by, by-trusted, idle-same, kind, read-next, read-installed}
 use Rattle.history.proofs.Left.{Left, left, left-installed}
+use Rattle.history.proofs.Clock.{clock-next, clock-installed}
 
 -- ## The two orders
 
 pub record Rising (a b : State) : Type 0 where
   pub root : (r : Root) → a .root ≡ some r → (r′ : Root) × (b .root ≡ some r′) × (r .version ≤ r′ .version)
+  pub clock : a .start ≤ℤ b .start
 
 -- a later snapshot: whatever keeps its names keeps the earlier one's, and its targets version is not lower
 pub record Covers (n n′ : Snapshot) : Type 0 where
@@ -37,12 +42,18 @@ pub record Onward (a b : State) : Type 0 where
       → (t′ : Timestamp) × (b .timestamp ≡ some t′) × (t .version ≤ t′ .version) × (t .snapshot .version ≤ t′ .snapshot .version)
   pub snapshot : (n : Snapshot) → a .snapshot ≡ some n → (n′ : Snapshot) × (b .snapshot ≡ some n′) × Covers n n′
 
-pub rising-same : (a b : State) → b .root ≡ a .root → Rising a b
-rising-same a b e = record { root = λ r h. (r, e ∙ h, le-refl (r .version)) }
+rising-root : (a b : State) → b .root ≡ a .root → a .start ≤ℤ b .start → Rising a b
+rising-root a b e l = record { root = λ r h. (r, e ∙ h, le-refl (r .version)); clock = l }
+
+pub rising-refl : (s : State) → Rising s s
+rising-refl s = rising-root s s refl (≤ℤ-refl (s .start))
 
 pub rising-trans : {a b c : State} → Rising a b → Rising b c → Rising a c
 rising-trans p q =
-    record { root = λ r h. let x = p .root r h in let y = q .root (x .0) (x .1) in (y .0, y .1, le-trans (x .2) (y .2)) }
+    record {
+      root = λ r h. let x = p .root r h in let y = q .root (x .0) (x .1) in (y .0, y .1, le-trans (x .2) (y .2));
+      clock = ≤ℤ-trans (p .clock) (q .clock);
+    }
 
 covers-refl : (n : Snapshot) → Covers n n
 covers-refl n = record { names = λ fs k. k; targets = le-refl (targetsEntry n .version) }
@@ -82,16 +93,23 @@ above-root : {s : State} {c : Call} {r : Root} → TrustedBy s c (aRoot r) → (
 above-root (root {o} {r} g) h e =
     subst (λ (x : Root). x .version ≤ r .version) (one-held (g .isHeld) e) (let v = g .version in omega arith)
 
+-- a call that leaves the root
+rising-at : (s : State) (c : Call) → next s c .root ≡ s .root → Rising s (next s c)
+rising-at s c e = rising-root s (next s c) e (clock-next s c)
+
 rising-trusted : {s : State} {c : Call} {x : Item} → TrustedBy s c x → Rising s (next s c)
 unfolding withRoot withTimestamp withSnapshot withTargets
 rising-trusted {s} (root {o} {r} g) =
-    record { root = λ h e. (r, ap (λ (x : State). x .root) (root-after s o r g), above-root (root g) h e) }
-rising-trusted {s} (timestamp {o} {t} g) = rising-same s (next s (newTimestamp o)) (ap (λ (x : State). x .root) (timestamp-after s o t g))
-rising-trusted {s} (snapshot {o} {n} g) = rising-same s (next s (newSnapshot o)) (ap (λ (x : State). x .root) (snapshot-after s o n g))
-rising-trusted {s} (targets {o} {g = f} g) = rising-same s (next s (newTargets o)) (ap (λ (x : State). x .root) (targets-after s o f g))
+    record {
+      root = λ h e. (r, ap (λ (x : State). x .root) (root-after s o r g), above-root (root g) h e);
+      clock = clock-next s (newRoot o);
+    }
+rising-trusted {s} (timestamp {o} {t} g) = rising-at s (newTimestamp o) (ap (λ (x : State). x .root) (timestamp-after s o t g))
+rising-trusted {s} (snapshot {o} {n} g) = rising-at s (newSnapshot o) (ap (λ (x : State). x .root) (snapshot-after s o n g))
+rising-trusted {s} (targets {o} {g = f} g) = rising-at s (newTargets o) (ap (λ (x : State). x .root) (targets-after s o f g))
 
 pub rising : (s : State) → RootRead s → (c : Call) → Rising s (next s c)
-rising s read c = elim (kind s read c) [ inl k ↦ rising-trusted (k .1) | inr i ↦ rising-same s (next s c) (idle-same s c i .root) ]
+rising s read c = elim (kind s read c) [ inl k ↦ rising-trusted (k .1) | inr i ↦ rising-at s c (idle-same s c i .root) ]
 
 -- a test that is not true
 unless-true : (b : Bool) → ¬ (b ≡ true) → b ≡ false
@@ -161,7 +179,7 @@ met s read (c ∷ cs) [] e rest q =
       call = c;
       is = sym (head-eq-of-cons-eq q);
       read = read;
-      rises = rising-same s s refl;
+      rises = rising-refl s;
       goesOn = λ stays. onward-same s s refl refl;
       later = cs;
       follow = tail-eq-of-cons-eq q;
@@ -186,19 +204,24 @@ met s read (c ∷ cs) (x ∷ mid) e rest q =
 record Pair (e₁ : Event) (mid : List Event) (e₂ : Event) : Type 0 where
   after : State
   leaves : (x : Item) → BecomesTrusted e₁ x → Left after x
+  clock : inForce e₁ ≤ℤ after .start
   given : State
+  start : given .start ≡ inForce e₂
   rises : Rising after given
   goesOn : Unrotated mid → Onward after given
   by : (x : Item) → BecomesTrusted e₂ x → (c : Call) × TrustedBy given c x
 
 pair-of : (e₁ : Event) (mid : List Event) (e₂ : Event) (post : List Event) (after : State) → RootRead after
-    → ((x : Item) → BecomesTrusted e₁ x → Left after x) → (cs : List Call) → events after cs ≡ mid ++ (e₂ ∷ post) → Pair e₁ mid e₂
-pair-of e₁ mid e₂ post after read leaves cs q =
+    → ((x : Item) → BecomesTrusted e₁ x → Left after x) → inForce e₁ ≤ℤ after .start → (cs : List Call)
+    → events after cs ≡ mid ++ (e₂ ∷ post) → Pair e₁ mid e₂
+pair-of e₁ mid e₂ post after read leaves clock cs q =
     let m = met after read cs mid e₂ post q in
     record {
       after = after;
       leaves = leaves;
+      clock = clock;
       given = m .given;
+      start = ap inForce (sym (m .is));
       rises = m .rises;
       goesOn = m .goesOn;
       by = λ x k. (m .call, trusted-by (m .given) (m .read) (subst (λ e. BecomesTrusted e x) (m .is) k));
@@ -218,15 +241,24 @@ pair h e₁ mid e₂ apart = go (apart .before) (apart .split)
         → Pair e₁ mid e₂
     go [] q =
         pair-of e₁ mid e₂ (apart .after) s₀ read₀
-        (λ x k. left-installed (subst (λ e. BecomesTrusted e x) (sym (head-eq-of-cons-eq q)) k)) (h .calls) (tail-eq-of-cons-eq q)
+        (λ x k. left-installed (subst (λ e. BecomesTrusted e x) (sym (head-eq-of-cons-eq q)) k))
+        (subst (λ (t : ℤ). t ≤ℤ s₀ .start) (clock-installed (h .install) (h .accepted) ∙ ap inForce (head-eq-of-cons-eq q)) (≤ℤ-refl (s₀ .start)))
+        (h .calls) (tail-eq-of-cons-eq q)
     go (x ∷ before) q =
         let m = met s₀ read₀ (h .calls) before e₁ (mid ++ (e₂ ∷ apart .after)) (tail-eq-of-cons-eq q) in
         pair-of e₁ mid e₂ (apart .after) (next (m .given) (m .call)) (read-next (m .given) (m .read) (m .call))
-        (λ y k. left (trusted-by (m .given) (m .read) (subst (λ e. BecomesTrusted e y) (m .is) k))) (m .later) (m .follow)
+        (λ y k. left (trusted-by (m .given) (m .read) (subst (λ e. BecomesTrusted e y) (m .is) k)))
+        (subst (λ (t : ℤ). t ≤ℤ next (m .given) (m .call) .start) (ap inForce (sym (m .is))) (clock-next (m .given) (m .call)))
+        (m .later) (m .follow)
 
 -- ## Nothing falls
 
 module _ (h : History) (e₁ e₂ : Event) (mid : List Event) where
+  pub clock-rises : Apart (happened h) e₁ mid e₂ → inForce e₁ ≤ℤ inForce e₂
+  clock-rises apart =
+      let p = pair h e₁ mid e₂ apart in
+      subst (λ (t : ℤ). inForce e₁ ≤ℤ t) (p .start) (≤ℤ-trans (p .clock) (p .rises .clock))
+
   pub roots-rise : (r₁ r₂ : Root) → Apart (happened h) e₁ mid e₂ → BecomesTrusted e₁ (aRoot r₁) → BecomesTrusted e₂ (aRoot r₂)
       → r₁ .version ≤ r₂ .version
   roots-rise r₁ r₂ apart k₁ k₂ =

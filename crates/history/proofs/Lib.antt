@@ -7,5 +7,6 @@ pub mod Publisher
 pub mod Demand2
 pub mod Keyids
 pub mod Versions
+pub mod Clock
 pub mod Demand3
 pub mod Program

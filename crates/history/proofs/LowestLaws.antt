@@ -1,10 +1,10 @@
 -- "The lowest number whose condition holds, of those the call uses; 0 if none": each table's numbers do not fall, and are above reading's 1
 -- to 4; reading's 16 is tried between 3 and 4.
 use mathlib.Core.Path.{_≡_, refl}
-use mathlib.Core.Logic.{_↔_, _⊎_, inl, inr}
+use mathlib.Core.Logic.{_↔_}
 use mathlib.Core.Bool.{Bool, true, false, cond}
 use mathlib.Core.List.{List, [], _∷_, List·Memᴰ, List·Memᴰ·head, List·Memᴰ·tail}
-use Prim.Native.Nat.{ℕ, _≤_, _<_}
+use Prim.Native.Nat.{ℕ, _≤_}
 use native.Mathlib.Omega.{arith}
 use native.Mathlib.Nat.{le-trans}
 use lib.Dec.{leb}
@@ -14,16 +14,16 @@ use Rattle.base.specs.Bytes.{Bytes, bytes}
 use Rattle.base.proofs.TestLaws.{never, both}
 use Rattle.rules.specs.Limits.{maxFile}
 use Rattle.rules.specs.Records as records
-use Rattle.rules.specs.Records.{File, Fault, tooLong, notText, badForm, otherKeyid, otherSpec, Read, refused, says}
+use Rattle.rules.specs.Records.{File, otherKeyid, otherSpec, Read, refused, says}
 use Rattle.rules.specs.Forms.{knownSpec, root, rootKeyids}
 use Rattle.rules.specs.Reading.{judgedText, readWith, keyidsOf, known, spoken, inEnvelope, readAs, readRoot}
 use Rattle.rules.specs.State.{keepRoot, kept, rootIn, timestampIn, snapshotIn, targetsIn}
 use Rattle.rules.specs.Table.{Refusal, _when_, first}
-use Rattle.rules.specs.Steps.{installTable, rootTable, timestampTable, snapshotTable, targetsTable, findTable, keyTable, faultNumber, judged, installAnswer, answer}
+use Rattle.rules.specs.Steps.{installTable, cycleTable, rootTable, timestampTable, snapshotTable, targetsTable, findTable, keyTable, judged, installAnswer, answer}
 use Rattle.rules.specs.Asked.{imageTable, imageAnswer}
 use Rattle.rules.specs.Lowest.{LowestOf, noneHolds, holds, Judgement, unread, judges, OtherKeyid, Lowest}
 use Rattle.rules.proofs.ReadingLaws.{Formed, Outcome, unformed, formed, outcome}
-use Rattle.rules.proofs.TableLaws.{rising}
+use Rattle.rules.proofs.TableLaws.{rising, fault-numbers}
 
 -- no line has a number below m
 none-below : (m : ℕ) (rows : List Refusal) → rising m rows ≡ true → (n : ℕ) (b : Bool) → List·Memᴰ (n when b) rows → m ≤ n
@@ -56,18 +56,10 @@ lowest m (k when true ∷ rest) t = holds (List·Memᴰ·head refl) least
     least n (List·Memᴰ·tail i) = none-below k rest (both (leb m k) (rising k rest) t .1) n true i
 lowest m (k when false ∷ rest) t = passed-over (lowest k rest (both (leb m k) (rising k rest) t .1))
 
-fault-below : (f : Fault) → (faultNumber f < 5) ⊎ (faultNumber f ≡ 16)
-unfolding faultNumber
-fault-below tooLong = inl (omega arith)
-fault-below notText = inl (omega arith)
-fault-below badForm = inl (omega arith)
-fault-below otherKeyid = inr refl
-fault-below otherSpec = inl (omega arith)
-
 judgement : {A : Type 0} (rd : Read A) (table : A → List Bytes → List Refusal) → ((a : A) (es : List Bytes) → rising 5 (table a es) ≡ true)
     → Judgement rd table (judged rd table)
 unfolding judged
-judgement (refused f) table t = unread refl (fault-below f)
+judgement (refused f) table t = unread refl (fault-numbers f .1)
 judgement (says a es) table t = judges refl (none-below 5 (table a es) (t a es)) (lowest 5 (table a es) (t a es))
 
 -- ## 16
@@ -104,11 +96,12 @@ sixteen file = (λ h. go (outcome (bytes "root") root rootKeyids file) h, back)
 -- ## Every call that refuses
 
 pub lowest-of-each : Lowest
-unfolding installTable rootTable timestampTable snapshotTable targetsTable findTable keyTable imageTable installAnswer answer imageAnswer
+unfolding installTable cycleTable rootTable timestampTable snapshotTable targetsTable findTable keyTable imageTable installAnswer answer imageAnswer
 lowest-of-each =
     record {
       sixteen = sixteen;
       ofInstall = λ o. judgement (rootIn (o .file)) (installTable o) (λ r es. refl);
+      ofCycle = λ s t. lowest 17 (cycleTable s t) refl;
       ofRoot = λ s o. judgement (rootIn (o .file)) (rootTable s o) (λ r es. refl);
       ofTimestamp = λ s o. judgement (timestampIn (o .file)) (timestampTable s o) (λ t es. refl);
       ofSnapshot = λ s o. judgement (snapshotIn (o .file)) (snapshotTable s o) (λ n es. refl);

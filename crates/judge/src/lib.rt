@@ -12,7 +12,7 @@ ghost use Rattle.rules.specs.Records.{File, Image};
 ghost use Rattle.rules.specs.State.{Install, RootOffer, FileOffer, Query};
 ghost use Rattle.rules.specs.Table.{first};
 ghost use Rattle.rules.specs.Conditions.{badDigest};
-ghost use Rattle.rules.specs.Steps.{installTable, timestampTable, rootTable, snapshotTable, targetsTable, findTable};
+ghost use Rattle.rules.specs.Steps.{installTable, cycleTable, timestampTable, rootTable, snapshotTable, targetsTable, findTable};
 ghost use Rattle.records.specs.View.{viewRoot, viewTimestamp, viewSnapshot, viewEntries};
 ghost use Rattle.state.specs.View.{view};
 ghost use Rattle.judge.specs.Offer.{Measured, Dated, Queried, Lists};
@@ -33,6 +33,16 @@ pub fn judge_install(offered: Root, entries: Entries, row: &[u8]) -> u8
     }
     if keys::too_few(offered.table, offered.root, entries, row) {
         return 10;
+    }
+    0
+}
+
+// New cycle (A8: 17): "an equal one passes"
+pub fn judge_cycle(s: State, start: Time) -> u8
+    ensures { λ r. ⌜ r ≡ first (cycleTable (view s) (start .seconds)) ⌝ }
+{
+    if s.is_earlier(start) {
+        return 17;
     }
     0
 }

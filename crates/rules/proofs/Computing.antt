@@ -2,7 +2,7 @@
 use mathlib.Core.Option.{bind}
 use Rattle.base.specs.Bytes.{same, less}
 use Rattle.base.specs.Hex.{digitOf, allHex, isHex, undo}
-use Rattle.date.specs.Calendar.{fits, hasForm, dateOf, civilTime, timeOf, epoch, secondNumber, dayNumber, yearsBefore, firstMonths, expired}
+use Rattle.date.specs.Calendar.{fits, hasForm, dateOf, civilTime, timeOf, epoch, secondNumber, dayNumber, yearsBefore, firstMonths, expired, earlier}
 use Rattle.json.specs.Lead.{leadOf}
 use Rattle.json.specs.Json.{put, putBytes}
 use Rattle.json.specs.Read as reader
@@ -20,7 +20,7 @@ use Rattle.rules.specs.Steps.{installTable, cycleTable, rootTable, times
 use Rattle.rules.specs.Asked.{nothingFound, theImage, inTargets, found, comparedIn, unsearched, comparedBy, publicOf, inRoot, publicKey, lookOf, look, noEntry, nth, theEntry, entryIn, entryAt}
 
 unfoldable pub dates : Unit {0}
-unfolding fits hasForm dateOf civilTime timeOf epoch secondNumber dayNumber yearsBefore firstMonths expired
+unfolding fits hasForm dateOf civilTime timeOf epoch secondNumber dayNumber yearsBefore firstMonths expired earlier
 dates = tt
 
 -- the value of a text

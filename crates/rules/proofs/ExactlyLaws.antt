@@ -1,20 +1,22 @@
 -- Demand 2 for the written rules: each call answers 0 exactly when all of its conditions hold, and what it then gives.
 use mathlib.Core.Path.{_≡_, refl, ap, _∙_}
 use mathlib.Core.Option.{some}
-use mathlib.Core.Bool.{false}
-use mathlib.Core.List.{List, List·Memᴰ·head}
+use mathlib.Core.Logic.{_↔_}
+use mathlib.Core.Bool.{Bool, true, false}
+use mathlib.Core.List.{List, [], _∷_, List·Memᴰ·head}
 use native.Mathlib.Omega.{arith}
 use native.Mathlib.Nat.{le-of-lt}
 use lib.IntN.{ℤ}
 use lib.ListN.{length}
+use lib.Signed.{_≤ℤ_, _<ℤ_}
 use borrow.Author.Tests.{eq-eqb, eqb-true, ltb-false, le-ltb, eqb-false, ne-eqb, leb-false, lt-leb, not-false}
 use Rattle.base.specs.Bytes.{Bytes}
 use Rattle.base.specs.Hex.{undo}
-use Rattle.date.specs.Calendar.{expired}
+use Rattle.date.specs.Calendar.{expired, earlier}
 use Rattle.rules.specs.Limits.{maxVersion, keySize}
 use Rattle.rules.specs.Records.{Key, Image, File, says}
 use Rattle.rules.specs.State.{Root, Timestamp, Snapshot, State, blank, rootIn, timestampIn, snapshotIn, targetsIn, keepTargets, Install, RootOffer, FileOffer, Query, newCycle, newRoot, newTimestamp, newSnapshot, newTargets, find, askKey}
-use Rattle.rules.specs.Table.{first, ofHeld, absent}
+use Rattle.rules.specs.Table.{_when_, first, ofHeld, absent}
 use Rattle.rules.specs.Conditions.{staleSnapshot, staleTargets, imageOf, keyOf}
 use Rattle.rules.specs.Steps.{installTable, cycleTable, rootTable, timestampTable, snapshotTable, targetsTable, findTable, keyTable, installAnswer, installed, begun, rootAlone, answer, refuses, next, withStart, withRoot, withTimestamp, withSnapshot, withTargets, aRoot, aTimestamp, aSnapshot, aTargets, offered, started, trusting, afterRoot}
 use Rattle.rules.specs.Asked.{Found, imageTable, imageAnswer, nothingFound, theImage, inTargets, found, zeros, publicOf, inRoot, publicKey}
@@ -22,7 +24,7 @@ use Rattle.rules.specs.Words.{Different, IsVersion}
 use Rattle.rules.specs.Exactly.{LeansOnRoot, LeansOnTimestamp, LeansOnSnapshot, LeansOnTargets, InstallGood, RootGood, TimestampGood, SnapshotGood, TargetsGood, FindGood, KeyGood, ImageGood, RootRead}
 use Rattle.rules.proofs.OptionLaws.{not-absent}
 use Rattle.rules.proofs.ListLaws.{not-exactly, same-exactly}
-use Rattle.rules.proofs.WordLaws.{row-good, digest-good, version-exactly, fresh-exactly, enough-passes, passes-enough, keeps-exactly, matches-exactly}
+use Rattle.rules.proofs.WordLaws.{row-good, digest-good, version-exactly, fresh-exactly, earlier-exactly, not-earlier, enough-passes, passes-enough, keeps-exactly, matches-exactly}
 use Rattle.rules.proofs.RootLaws.{root-different}
 use Rattle.rules.proofs.VersionLaws.{root-versions}
 use Rattle.rules.proofs.TableLaws.{one-held, _&_, clear-first, no-line, held-test, test-held, judged-says, says-judged}
@@ -398,11 +400,28 @@ good-image listed fetched g =
     & not-exactly _ (same-exactly _ _) .1 (g .sameDigest)
     & tt)
 
--- ## Calls that offer no file
+-- ## New cycle
 
-pub next-cycle : (s : State) (t : ℤ) → (answer s (newCycle t) ≡ 0) × (next s (newCycle t) ≡ withStart s t)
-unfolding answer cycleTable first offered started
-next-cycle s t = (refl, next-none s (newCycle t) refl refl)
+module _ (s : State) (t : ℤ) where
+  pub cycle-good : answer s (newCycle t) ≡ 0 → s .start ≤ℤ t
+  unfolding answer cycleTable
+  cycle-good a = not-earlier t (s .start) .0 (no-line (cycleTable s t) refl a 17 0)
+
+  pub good-cycle : s .start ≤ℤ t → answer s (newCycle t) ≡ 0
+  unfolding answer cycleTable
+  good-cycle h = clear-first (cycleTable s t) (not-earlier t (s .start) .1 h & tt)
+
+  pub cycle-earlier : (answer s (newCycle t) ≡ 17) ↔ (t <ℤ s .start)
+  unfolding answer cycleTable first
+  cycle-earlier = (λ e. earlier-exactly t (s .start) .0 (holds (earlier t (s .start)) e), λ h. rw (earlier-exactly t (s .start) .1 h))
+    where
+      holds : (b : Bool) → first (17 when b ∷ []) ≡ 17 → b ≡ true
+      holds true e = refl
+      holds false e = absurd (omega arith)
+
+  pub cycle-after : s .start ≤ℤ t → next s (newCycle t) ≡ withStart s t
+  unfolding offered started
+  cycle-after h = next-none s (newCycle t) refl (good-cycle h)
 
 -- ## Install
 

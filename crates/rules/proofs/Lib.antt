@@ -16,3 +16,4 @@ pub mod TableLaws
 pub mod SearchLaws
 pub mod NextLaws
 pub mod ExactlyLaws
+pub mod ExpiryLaws

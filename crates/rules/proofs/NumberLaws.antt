@@ -25,8 +25,8 @@ numbers (n when b ∷ rest) = ahead n (numbers rest)
 pub record Uses : Type 0 where
   -- "Install (1 to 5, 10)"
   pub install : (o : Install) (r : Root) (es : List Bytes) → numbers (installTable o r es) ≡ 5 ∷ 10 ∷ []
-  -- "New cycle: always succeeds"
-  pub cycle : (s : State) (t : ℤ) → numbers (cycleTable s t) ≡ []
+  -- A8: "refused with the new number 17"
+  pub cycle : (s : State) (t : ℤ) → numbers (cycleTable s t) ≡ 17 ∷ []
   -- "Root (1 to 6, 9, 10, 11)"
   pub root : (s : State) (o : RootOffer) (r : Root) (es : List Bytes) → numbers (rootTable s o r es) ≡ 5 ∷ 6 ∷ 9 ∷ 10 ∷ 11 ∷ []
   -- "Timestamp (1 to 7, 9, 11 to 14)"

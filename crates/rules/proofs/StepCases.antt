@@ -5,7 +5,7 @@ use mathlib.Core.List.{List, [], _∷_, map}
 use mathlib.Core.Option.{Option, none, some}
 use mathlib.Core.Bool.{Bool, true, false}
 use Prim.Native.Nat.{ℕ}
-use lib.IntN.{ℤ, pos}
+use lib.IntN.{ℤ, pos, negsuc}
 use lib.ListN.{replicate}
 use Rattle.base.specs.Bytes.{Bytes, bytes}
 use Rattle.json.specs.Json.{Json, jnull, mnil, mcons}
@@ -17,7 +17,7 @@ use Rattle.rules.specs.State.{Root, Timestamp, Snapshot, State, Row}
 use Rattle.rules.specs.Table.{first, absent}
 use Rattle.rules.specs.Conditions.{badDigest}
 use Rattle.rules.specs.Search.{compared}
-use Rattle.rules.specs.Steps.{installTable, rootTable, timestampTable, snapshotTable, targetsTable, findTable, withRoot}
+use Rattle.rules.specs.Steps.{installTable, cycleTable, rootTable, timestampTable, snapshotTable, targetsTable, findTable, withRoot}
 use Rattle.rules.specs.Asked.{unsearched, imageTable, imageAnswer}
 use Rattle.rules.proofs.Cases.{Case, _gives_, Right, a, b, both}
 use Rattle.rules.proofs.Computing.{tables, forms}
@@ -122,6 +122,9 @@ toFind s file path paths =
 abbrev pub toInstall : Row → ℕ
 toInstall row = first (installTable (record { file = []; row = row; start = pos 0 }) root4 (a ∷ []))
 
+abbrev pub toCycle : ℤ → ℤ → ℕ
+toCycle start t = first (cycleTable (holding start) t)
+
 abbrev pub answers : List (Case ℕ)
 answers =
     -- "a verdict row of another length than the entries, a verdict not 0 or 1"
@@ -130,6 +133,17 @@ answers =
     ∷ toInstall [] gives 5
     ∷ toInstall (1 ∷ 1 ∷ []) gives 5
     ∷ toInstall (2 ∷ []) gives 5
+    -- A8: "an earlier one is refused with the new number 17 ..; an equal one passes"; about 1970, and at both ends of 64 bits
+    ∷ toCycle (pos 1000) (pos 999) gives 17
+    ∷ toCycle (pos 1000) (pos 1000) gives 0
+    ∷ toCycle (pos 1000) (pos 1001) gives 0
+    ∷ toCycle (pos 0) (negsuc 0) gives 17
+    ∷ toCycle (negsuc 0) (negsuc 0) gives 0
+    ∷ toCycle (negsuc 0) (pos 0) gives 0
+    ∷ toCycle (negsuc 0) (negsuc 1) gives 17
+    ∷ toCycle (negsuc 0x7fff_ffff_ffff_ffff) (negsuc 0x7fff_ffff_ffff_ffff) gives 0
+    ∷ toCycle (negsuc 0x7fff_ffff_ffff_ffff) (pos 0x7fff_ffff_ffff_ffff) gives 0
+    ∷ toCycle (pos 0x7fff_ffff_ffff_ffff) (negsuc 0x7fff_ffff_ffff_ffff) gives 17
     -- "Held root 4: version 5 goes on; 4 and 6 are 11", also where both have expired
     ∷ toRoot (holding (pos 2000)) 1 1 5 gives 0
     ∷ toRoot (holding (pos 2000)) 1 1 4 gives 11

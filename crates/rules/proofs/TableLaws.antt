@@ -1,13 +1,14 @@
 -- A call's table: the answer is 0 exactly where no condition holds, and else the lowest number whose condition holds.
-use mathlib.Core.Path.{_≡_, refl, _∙_}
+use mathlib.Core.Path.{_≡_, refl, sym, _∙_}
+use mathlib.Core.Logic.{_⊎_, inl, inr, ⊎-elim}
 use mathlib.Core.Bool.{Bool, true, false, cond, _&&_}
 use mathlib.Core.Option.{Option, none, some}
 use mathlib.Core.List.{List, [], _∷_}
-use Prim.Native.Nat.{ℕ, zero, suc, _≤_}
+use Prim.Native.Nat.{ℕ, zero, suc, _≤_, _<_}
 use native.Mathlib.Omega.{arith}
 use native.Mathlib.Nat.{le-trans}
 use lib.Dec.{leb, eqb}
-use borrow.Author.Tests.{leb-true}
+use borrow.Author.Tests.{leb-true, eq-eqb}
 use Rattle.base.proofs.TestLaws.{never, both}
 use Rattle.base.specs.Bytes.{Bytes}
 use Rattle.rules.specs.Records.{Fault, tooLong, notText, badForm, otherKeyid, otherSpec, Read, refused, says}
@@ -77,6 +78,20 @@ line-clear (m when b ∷ rest) p n k = go (eqb n m) k (line-clear rest (p .1) n)
 pub no-line : (rows : List Refusal) → rising 5 rows ≡ true → first rows ≡ 0 → (n k : ℕ) → condition n k rows ≡ false
 no-line rows r e = line-clear rows (first-clear 5 rows (omega arith) r e)
 
+-- ## The line that answers
+
+-- a number that is answered has a line whose condition holds
+pub line-holds : (rows : List Refusal) (n : ℕ) → ¬ (n ≡ 0) → first rows ≡ n → (k : ℕ) × (condition n k rows ≡ true)
+unfolding first
+line-holds [] n x e = absurd (x (sym e))
+line-holds (m when true ∷ rest) n x e = (0, rw (eq-eqb n m (sym e)))
+line-holds (m when false ∷ rest) n x e = go (line-holds rest n x e) (eqb n m)
+  where
+    go : (k : ℕ) × (condition n k rest ≡ true) → (c : Bool)
+        → (k : ℕ) × (cond c (elim k as (λ x. Bool) [ zero ↦ false | suc j ↦ condition n j rest ]) (condition n k rest) ≡ true)
+    go w true = (suc (w .0), w .1)
+    go w false = w
+
 -- ## Records that may not be held
 
 pub held-test : {A : Type 0} {o : Option A} {a : A} (p : A → Bool) → o ≡ some a → ofHeld o p ≡ false → p a ≡ false
@@ -86,27 +101,30 @@ pub test-held : {A : Type 0} (o : Option A) (p : A → Bool) → ((a : A) → o 
 test-held none p f = refl
 test-held (some a) p f = f a refl
 
+pub held-true : {A : Type 0} (o : Option A) (p : A → Bool) → ofHeld o p ≡ true → (a : A) × (o ≡ some a) × (p a ≡ true)
+held-true none p e = never (sym e)
+held-true (some a) p e = (a, refl, e)
+
 pub one-held : {A : Type 0} {o : Option A} {a b : A} → o ≡ some a → o ≡ some b → a ≡ b
 one-held p q = cc
 
 -- ## Reading and the table
 
-pub fault-refuses : (f : Fault) → ¬ (faultNumber f ≡ 0)
+-- reading refuses with 1 to 4 or 16
+pub fault-numbers : (f : Fault) → (1 ≤ faultNumber f) × ((faultNumber f < 5) ⊎ (faultNumber f ≡ 16))
 unfolding faultNumber
-fault-refuses tooLong e = omega arith
-fault-refuses notText e = omega arith
-fault-refuses badForm e = omega arith
-fault-refuses otherKeyid e = omega arith
-fault-refuses otherSpec e = omega arith
+fault-numbers tooLong = (omega arith, inl (omega arith))
+fault-numbers notText = (omega arith, inl (omega arith))
+fault-numbers badForm = (omega arith, inl (omega arith))
+fault-numbers otherKeyid = (omega arith, inr refl)
+fault-numbers otherSpec = (omega arith, inl (omega arith))
 
--- reading does not answer "not listed"
-pub fault-unlisted : (f : Fault) → ¬ (faultNumber f ≡ 15)
-unfolding faultNumber
-fault-unlisted tooLong e = omega arith
-fault-unlisted notText e = omega arith
-fault-unlisted badForm e = omega arith
-fault-unlisted otherKeyid e = omega arith
-fault-unlisted otherSpec e = omega arith
+pub fault-refuses : (f : Fault) → ¬ (faultNumber f ≡ 0)
+fault-refuses f e = let w = fault-numbers f .0 in omega arith
+
+pub fault-other : (n : ℕ) → 5 ≤ n → n < 16 → (f : Fault) → ¬ (faultNumber f ≡ n)
+fault-other n lo hi f e =
+    ⊎-elim (λ (l : faultNumber f < 5). omega arith) (λ (q : faultNumber f ≡ 16). omega arith) (fault-numbers f .1)
 
 -- a file that was judged 0 was read, and no condition of the table holds of what it says
 pub record Judged {A : Type 0} (rd : Read A) (table : A → List Bytes → List Refusal) : Type 0 where
@@ -119,6 +137,13 @@ pub judged-says : {A : Type 0} (rd : Read A) (table : A → List Bytes → List 
 unfolding judged
 judged-says (refused f) table e = absurd (fault-refuses f e)
 judged-says (says a es) table e = record { file = a; entries = es; reads = refl; clear = e }
+
+-- where another number of the table is answered, one of its lines holds of what the file says
+pub judged-line : {A X : Type 0} (rd : Read A) (table : A → List Bytes → List Refusal) (n : ℕ) → 5 ≤ n → n < 16
+    → ((a : A) (es : List Bytes) → rd ≡ says a es → (k : ℕ) → condition n k (table a es) ≡ true → X) → judged rd table ≡ n → X
+unfolding judged
+judged-line (refused f) table n lo hi line e = absurd (fault-other n lo hi f e)
+judged-line (says a es) table n lo hi line e = let w = line-holds (table a es) n (λ z. omega arith) e in line a es refl (w .0) (w .1)
 
 pub judged-is : {A : Type 0} {rd : Read A} {a : A} {es : List Bytes} (table : A → List Bytes → List Refusal) → rd ≡ says a es
     → judged rd table ≡ first (table a es)

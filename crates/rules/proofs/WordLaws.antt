@@ -1,8 +1,8 @@
 -- The paper's words (specs/Words) against the tests that decide them (specs/Conditions).
-use mathlib.Core.Path.{_≡_, refl, sym, subst}
+use mathlib.Core.Path.{_≡_, refl, sym, ap}
 use mathlib.Core.Logic.{_↔_, ⊎-elim}
 use mathlib.Core.Option.{Option, none, some}
-use mathlib.Core.Bool.{Bool, true, false, not, cond, _&&_, _||_, or-true}
+use mathlib.Core.Bool.{Bool, true, false, not, cond, _&&_, or-true}
 use mathlib.Core.List.{List, [], _∷_, List·Memᴰ, List·Memᴰ·head, List·Memᴰ·tail}
 use Prim.Native.Nat.{ℕ, _≤_}
 use native.Mathlib.Omega.{arith}
@@ -11,11 +11,11 @@ use borrow.Author.Tests.{eqb-true, eq-eqb, ltb-false, le-ltb}
 use lib.Dec.{T, eqb, ltb}
 use lib.IntN.{ℤ}
 use lib.ListN.{length}
-use lib.Signed.{leZ, leZ-yes}
+use lib.Signed.{ltZ, leZ, _≤ℤ_, _<ℤ_, leZ-yes, ltZ-yes, ltZ-no, clashℤ}
 use Rattle.base.specs.Bytes.{Bytes, bytes, same}
 use Rattle.base.proofs.ByteLaws.{same-self, same-true}
 use Rattle.base.proofs.TestLaws.{never}
-use Rattle.date.specs.Calendar.{expired}
+use Rattle.date.specs.Calendar.{expired, earlier}
 use Rattle.rules.specs.Limits.{digestSize}
 use Rattle.rules.specs.Records.{Role, Listed, Named}
 use Rattle.rules.specs.Forms.{isIn}
@@ -54,16 +54,28 @@ pub version-exactly : (a b : ℕ) → (otherVersion a b ≡ false) ↔ (a ≡ b)
 unfolding otherVersion
 version-exactly a b = unequal a b
 
+-- a test as a statement
+is-true : (b : Bool) → T b ↔ (b ≡ true)
+is-true true = (λ t. refl, λ e. tt)
+is-true false = (λ t. absurd t, λ e. never (sym e))
+
 pub expired-exactly : (e s : ℤ) → (expired e s ≡ true) ↔ Expired e s
 unfolding expired
-expired-exactly e s = (λ t. leZ-yes (subst T (sym t) tt), λ h. is-true (leZ e s) (h .le))
-  where
-    is-true : (b : Bool) → T b → b ≡ true
-    is-true true t = refl
-    is-true false t = absurd t
+expired-exactly e s = (λ t. leZ-yes (is-true (leZ e s) .1 t), λ h. is-true (leZ e s) .0 (h .le))
 
 pub fresh-exactly : (e s : ℤ) → (expired e s ≡ false) ↔ (¬ Expired e s)
 fresh-exactly e s = false-exactly (expired e s) (expired-exactly e s)
+
+pub earlier-exactly : (t s : ℤ) → (earlier t s ≡ true) ↔ (t <ℤ s)
+unfolding earlier
+earlier-exactly t s = (λ e. ltZ-yes (is-true (ltZ t s) .1 e), λ h. is-true (ltZ t s) .0 (h .lt))
+
+pub not-earlier : (t s : ℤ) → (earlier t s ≡ false) ↔ (s ≤ℤ t)
+unfolding earlier
+not-earlier t s = (
+  λ e. ltZ-no (is-true (not (ltZ t s)) .1 (ap not e)),
+  λ h. false-exactly (earlier t s) (earlier-exactly t s) .1 (λ l. clashℤ l h),
+)
 
 -- ## Keys
 

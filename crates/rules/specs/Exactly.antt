@@ -5,9 +5,10 @@ use mathlib.Core.Logic.{_↔_, _⊎_}
 use mathlib.Core.Bool.{true}
 use mathlib.Core.Option.{some}
 use mathlib.Core.List.{List}
-use Prim.Native.Nat.{_+_, _≤_, _<_}
+use Prim.Native.Nat.{ℕ, _+_, _≤_, _<_}
 use lib.IntN.{ℤ}
 use lib.ListN.{length}
+use lib.Signed.{_≤ℤ_, _<ℤ_}
 use Rattle.base.specs.Bytes.{Bytes}
 use Rattle.base.specs.Hex.{isHex, undo}
 use Rattle.sha256.specs.Message.{digestOf}
@@ -16,7 +17,7 @@ use Rattle.rules.specs.Records.{Key, Image, File, says}
 use Rattle.rules.specs.State.{Root, Timestamp, Snapshot, Targets, State, blank, rootIn, timestampIn, snapshotIn, targetsIn, keepTargets, Install, RootOffer, FileOffer, Query, Call, newCycle, newRoot, newTimestamp, newSnapshot, newTargets, find, askKey, askState}
 use Rattle.rules.specs.Conditions.{targetsEntry, imageOf, keyOf}
 use Rattle.rules.specs.Search.{paths, compared, stopping, searched}
-use Rattle.rules.specs.Steps.{installAnswer, installed, rootAlone, answer, next, withStart, withRoot, withTimestamp, withSnapshot, withTargets}
+use Rattle.rules.specs.Steps.{installAnswer, installed, rootAlone, answer, next, withStart, withRoot, withTimestamp, withSnapshot, withTargets, Item, aRoot, aTimestamp, aSnapshot, aTargets, offered}
 use Rattle.rules.specs.Asked.{Found, nothingFound, found, comparedBy, zeros, publicKey, imageAnswer}
 use Rattle.rules.specs.Words.{GoodRow, GoodDigest, Enough, Expired, Keeps, Matches}
 
@@ -123,6 +124,52 @@ pub record ImageGood (listed fetched : Found) : Type 0 where
   pub sameLength : listed .length ≡ fetched .length
   pub sameDigest : listed .digest ≡ fetched .digest
 
+-- ## The dates that a call looks at (A8: what it finds expired, and what fresh)
+
+abbrev pub expiresOf : Item → ℤ
+expiresOf (aRoot r) = r .expires
+expiresOf (aTimestamp t) = t .expires
+expiresOf (aSnapshot n) = n .expires
+expiresOf (aTargets g) = g .expires
+
+abbrev pub IsHeld : State → Item → Type 0
+IsHeld s (aRoot r) = s .root ≡ some r
+IsHeld s (aTimestamp t) = s .timestamp ≡ some t
+IsHeld s (aSnapshot n) = s .snapshot ≡ some n
+IsHeld s (aTargets g) = s .targets ≡ some g
+
+-- the roles in the order in which calls lean on them
+abbrev pub rank : Item → ℕ
+rank (aRoot r) = 1
+rank (aTimestamp t) = 2
+rank (aSnapshot n) = 3
+rank (aTargets g) = 4
+
+-- up to which a call leans on them: a timestamp "on root", a snapshot "on root and timestamp", targets "on root, timestamp, snapshot", find
+-- "on all four". Of a root "Expiry does not matter here", and the others ask for no date either.
+abbrev pub leansUpTo : Call → ℕ
+leansUpTo (newCycle t) = 0
+leansUpTo (newRoot o) = 0
+leansUpTo (newTimestamp o) = 1
+leansUpTo (newSnapshot o) = 2
+leansUpTo (newTargets o) = 3
+leansUpTo (find q) = 4
+leansUpTo (askKey k) = 0
+leansUpTo askState = 0
+
+-- a file whose date the call compares with the start time in force: a record that it leans on (7), or the file that it offers (14)
+pub data LooksAt (s : State) (c : Call) (x : Item) : Type 0 where
+  leansOn : IsHeld s x → rank x ≤ leansUpTo c → LooksAt s c x
+  offers : offered c ≡ some x → 1 ≤ leansUpTo c → LooksAt s c x
+
+pub record FindsExpired (s : State) (c : Call) (x : Item) : Type 0 where
+  pub looks : LooksAt s c x
+  pub expired : Expired (expiresOf x) (s .start)
+
+pub record FindsFresh (s : State) (c : Call) (x : Item) : Type 0 where
+  pub looks : LooksAt s c x
+  pub fresh : ¬ Expired (expiresOf x) (s .start)
+
 -- ## The claim
 
 -- The held root was read from a file, so that no role names a key twice. It is so of every state of a history.
@@ -152,8 +199,10 @@ pub record Demand2 (s : State) : Type 0 where
   pub targets : (o : FileOffer) → (answer s (newTargets o) ≡ 0) ↔ ((g : File (List Image)) × TargetsGood s o g)
   pub targetsAfter : (o : FileOffer) (g : File (List Image)) → TargetsGood s o g
       → next s (newTargets o) ≡ withTargets s (keepTargets (o .file) g)
-  -- "New cycle: always succeeds."
-  pub cycle : (t : ℤ) → (answer s (newCycle t) ≡ 0) × (next s (newCycle t) ≡ withStart s t)
+  -- A8: "A new cycle with an earlier one is refused with the new number 17 and changes nothing; an equal one passes."
+  pub cycle : (t : ℤ) → (answer s (newCycle t) ≡ 0) ↔ (s .start ≤ℤ t)
+  pub cycleAfter : (t : ℤ) → s .start ≤ℤ t → next s (newCycle t) ≡ withStart s t
+  pub cycleEarlier : (t : ℤ) → (answer s (newCycle t) ≡ 17) ↔ (t <ℤ s .start)
   -- "Success gives length and sha256; a refusal gives zeros"
   pub finds : (q : Query) → (answer s (find q) ≡ 0) ↔ ((i : Image) × FindGood s q i)
   pub findsImage : (q : Query) (i : Image) → FindGood s q i → found s q ≡ record { length = i .length; digest = i .digest }
@@ -172,5 +221,8 @@ pub record Demand2 (s : State) : Type 0 where
   pub findAfter : (q : Query) → next s (find q) ≡ s
   pub keyAfter : (k : Bytes) → next s (askKey k) ≡ s
   pub stateAfter : (answer s askState ≡ 0) × (next s askState ≡ s)
+  -- A8: a call that answers 0 finds fresh every file at whose date it looks; one that answers 7 or 14 finds one expired.
+  pub foundFresh : (c : Call) (x : Item) → answer s c ≡ 0 → LooksAt s c x → FindsFresh s c x
+  pub foundExpired : (c : Call) → (answer s c ≡ 7) ⊎ (answer s c ≡ 14) → (x : Item) × FindsExpired s c x
   -- "A refusal returns the state it was given"
   pub refused : (c : Call) → ¬ (answer s c ≡ 0) → next s c ≡ s

@@ -6,13 +6,15 @@ use mathlib.Core.List.{List, [], _∷_, _++_, map, List·Memᴰ}
 use Prim.Native.Nat.{ℕ, _+_, _≤_, _<_}
 use lib.IntN.{ℤ}
 use lib.ListN.{length}
+use lib.Signed.{_≤ℤ_}
 use Rattle.base.specs.Bytes.{Bytes}
 use Rattle.sha256.specs.Message.{digestOf}
 use Rattle.rules.specs.Records.{Key, Named, Image, File, Read, says}
-use Rattle.rules.specs.State.{Root, Timestamp, Snapshot, Targets, State, keepTargets, rootIn, timestampIn, snapshotIn, targetsIn, Install, RootOffer, FileOffer, Call, newRoot, newTimestamp, newSnapshot, newTargets}
+use Rattle.rules.specs.State.{Root, Timestamp, Snapshot, Targets, State, keepTargets, rootIn, timestampIn, snapshotIn, targetsIn, Install, RootOffer, FileOffer, Call, newCycle, newRoot, newTimestamp, newSnapshot, newTargets}
 use Rattle.rules.specs.Conditions.{targetsEntry}
 use Rattle.rules.specs.Steps.{installAnswer, answer, Item, aRoot, aTimestamp, aSnapshot, aTargets, offered, next, installed}
 use Rattle.rules.specs.Words.{GoodRow, Enough, OwnKeyid, Collision, Rotated, AllVersions, Expired, Keeps, Matches}
+use Rattle.rules.specs.Exactly.{FindsExpired, FindsFresh}
 
 -- ## Histories
 
@@ -104,9 +106,29 @@ pub record Apart (all : List Event) (e₁ : Event) (between : List Event) (e₂ 
 abbrev pub Unrotated : List Event → Type 0
 Unrotated es = (e : Event) → List·Memᴰ e es → ¬ Rotates e
 
+-- ## The clock (A8)
+
+-- a start time that the state has had: the one that an accepted install set, or an accepted cycle
+pub data Sets : Event → ℤ → Type 0 where
+  byInstall : {o : Install} → installAnswer o ≡ 0 → Sets (begins o) (o .start)
+  byCycle : {s : State} {t : ℤ} → answer s (newCycle t) ≡ 0 → Sets (calls s (newCycle t)) t
+
+-- "the latest start time it has had"
+pub record Latest (all : List Event) (latest : ℤ) : Type 0 where
+  pub at : Event
+  pub among : List·Memᴰ at all
+  pub had : Sets at latest
+  pub noneLater : (e : Event) (t : ℤ) → List·Memᴰ e all → Sets e t → t ≤ℤ latest
+
+-- "the start time in force" at a call; at the install, the one that it sets
+abbrev pub inForce : Event → ℤ
+inForce (begins o) = o .start
+inForce (calls s c) = s .start
+
 -- ## The honest publisher
 
--- "Refused calls, finds, keys and new cycles may come anywhere between": calls by which no file becomes trusted
+-- "Refused calls, finds, keys and new cycles may come anywhere between": calls by which no file becomes trusted. Since A8 these cycles are the
+-- accepted ones, and a cycle with 17 is a refused call.
 abbrev pub Idle : State → Call → Type 0
 Idle s c = (x : Item) → ¬ BecomesTrusted (calls s c) x
 
@@ -257,6 +279,12 @@ pub record Demand3 (h : History) : Type 0 where
       → (k ≡ l) ⊎ Collision
   -- A7: every version of a file that became trusted, its own or one that it lists, is in the range of versions.
   pub versions : (e : Event) (x : Item) → List·Memᴰ e (happened h) → BecomesTrusted e x → AllVersions (versionsOf x)
+  -- A8: "The state keeps the latest start time it has had": it is the one in force.
+  pub latest : Latest (happened h) (end h .start)
+  -- So the start time in force never falls, and a file found expired once is never found fresh later.
+  pub clockRises : (e₁ e₂ : Event) (between : List Event) → Apart (happened h) e₁ between e₂ → inForce e₁ ≤ℤ inForce e₂
+  pub staysExpired : (s₁ s₂ : State) (c₁ c₂ : Call) (between : List Event) (x : Item)
+      → Apart (happened h) (calls s₁ c₁) between (calls s₂ c₂) → FindsExpired s₁ c₁ x → ¬ FindsFresh s₂ c₂ x
   -- A root is always held. A well-formed file (1 to 5 do not hold, nor A1's 16) offered as the next one becomes trusted exactly when its version is one above the held
   -- one's and enough keys of the held root and enough of its own signed it.
   pub rootExactly : (s : State) (o : RootOffer) (r : Root) (entries : List Bytes) → List·Memᴰ (calls s (newRoot o)) (happened h)

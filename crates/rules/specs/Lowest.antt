@@ -6,6 +6,7 @@ use mathlib.Core.Bool.{Bool, true, false}
 use mathlib.Core.Option.{some}
 use mathlib.Core.List.{List, List·Memᴰ}
 use Prim.Native.Nat.{ℕ, _≤_, _<_}
+use lib.IntN.{ℤ}
 use lib.ListN.{length}
 use Rattle.base.specs.Bytes.{Bytes, bytes}
 use Rattle.json.specs.Json.{Json}
@@ -13,9 +14,9 @@ use Rattle.rules.specs.Limits.{maxFile}
 use Rattle.rules.specs.Records.{Root, File, Fault, otherKeyid, Read, refused, says}
 use Rattle.rules.specs.Forms.{Envelope, envelope, fileOf, root, rootKeyids}
 use Rattle.rules.specs.Reading.{parsed}
-use Rattle.rules.specs.State.{State, rootIn, timestampIn, snapshotIn, targetsIn, Install, RootOffer, FileOffer, Query, newRoot, newTimestamp, newSnapshot, newTargets, find, askKey}
+use Rattle.rules.specs.State.{State, rootIn, timestampIn, snapshotIn, targetsIn, Install, RootOffer, FileOffer, Query, newCycle, newRoot, newTimestamp, newSnapshot, newTargets, find, askKey}
 use Rattle.rules.specs.Table.{Refusal, _when_}
-use Rattle.rules.specs.Steps.{installTable, rootTable, timestampTable, snapshotTable, targetsTable, findTable, keyTable, faultNumber, installAnswer, answer}
+use Rattle.rules.specs.Steps.{installTable, cycleTable, rootTable, timestampTable, snapshotTable, targetsTable, findTable, keyTable, faultNumber, installAnswer, answer}
 use Rattle.rules.specs.Asked.{Found, imageTable, imageAnswer}
 
 -- the number of a line whose condition holds, with no such line of a lower number; or 0, where none holds
@@ -43,6 +44,7 @@ pub record OtherKeyid (file : Bytes) : Type 0 where
 pub record Lowest : Type 0 where
   pub sixteen : (file : Bytes) → (rootIn file ≡ refused otherKeyid) ↔ OtherKeyid file
   pub ofInstall : (o : Install) → Judgement (rootIn (o .file)) (installTable o) (installAnswer o)
+  pub ofCycle : (s : State) (t : ℤ) → LowestOf (cycleTable s t) (answer s (newCycle t))
   pub ofRoot : (s : State) (o : RootOffer) → Judgement (rootIn (o .file)) (rootTable s o) (answer s (newRoot o))
   pub ofTimestamp : (s : State) (o : FileOffer) → Judgement (timestampIn (o .file)) (timestampTable s o) (answer s (newTimestamp o))
   pub ofSnapshot : (s : State) (o : FileOffer) → Judgement (snapshotIn (o .file)) (snapshotTable s o) (answer s (newSnapshot o))

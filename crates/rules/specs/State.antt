@@ -44,6 +44,7 @@ pub record State : Type 0 where
   pub timestamp : Option Timestamp
   pub snapshot : Option Snapshot
   pub targets : Option Targets
+  -- the start time in force; A8: "The state keeps the latest start time it has had", which is this one (`latest` of `Demand3`)
   pub start : ℤ
 
 -- "the blank state, which holds no record and has the lowest signed 64-bit count as its start time"

@@ -11,7 +11,7 @@ use lib.ListN.{length}
 use Rattle.base.specs.Bytes.{Bytes, same}
 use Rattle.base.specs.Hex.{isHex, undo}
 use Rattle.sha256.specs.Message.{digestOf}
-use Rattle.date.specs.Calendar.{expired}
+use Rattle.date.specs.Calendar.{expired, earlier}
 use Rattle.rules.specs.Limits.{maxPath, keySize}
 use Rattle.rules.specs.Records.{Image, File, Fault, tooLong, notText, badForm, otherKeyid, otherSpec, Read, refused, says}
 use Rattle.rules.specs.State.{Root, Timestamp, Snapshot, Targets, State, blank, keepTargets, rootIn, timestampIn, snapshotIn, targetsIn, Install, RootOffer, FileOffer, Query, Call, newCycle, newRoot, newTimestamp, newSnapshot, newTargets, find, askKey, askState}
@@ -27,9 +27,11 @@ installTable o r es =
     ∷ 10 when tooFew (r .rootRole) es (o .row)
     ∷ []
 
--- "New cycle: always succeeds."
+-- A8: "A new cycle with an earlier one is refused with the new number 17 and changes nothing; an equal one passes." In 01 it always succeeds.
 unfoldable pub cycleTable : State → ℤ → List Refusal
-cycleTable s t = []
+cycleTable s t =
+    17 when earlier t (s .start)
+    ∷ []
 
 -- "Root (1 to 6, 9, 10, 11): version exactly held plus one. Expiry does not matter here." With A1's 16 likewise.
 unfoldable pub rootTable : State → RootOffer → Root → List Bytes → List Refusal
@@ -153,7 +155,7 @@ refuses c n = not (eqb n 0)
 
 -- ## The state after a call that is not refused
 
--- "Only an accepted install or a new cycle sets the start time"
+-- "Only an accepted install or a new cycle sets the start time"; since A8 an accepted one
 unfoldable pub withStart : State → ℤ → State
 withStart s start =
     record { root = s .root; timestamp = s .timestamp; snapshot = s .snapshot; targets = s .targets; start = start }

@@ -20,7 +20,7 @@ ghost use Prim.Native.Nat.{_+_};
 ghost use lib.Dec.{ltb, eqb};
 ghost use Rattle.base.specs.Bytes.{same};
 ghost use Rattle.json.specs.Fields.{keep};
-ghost use Rattle.date.specs.Calendar.{expired as expiredAt};
+ghost use Rattle.date.specs.Calendar.{expired as expiredAt, earlier as earlierThan};
 ghost use Rattle.rules.specs.State.{blank as blankState};
 ghost use Rattle.rules.specs.Table.{ofHeld, absent};
 ghost use Rattle.rules.specs.Conditions.{rotates, rotatesTargets, tooFew, otherVersion, otherLength, otherDigest, lost, staleSnapshot, staleTargets, targetsEntry, keyOf};
@@ -206,7 +206,7 @@ impl State {
         next
     }
 
-    // "Only an accepted install or a new cycle sets the start time"
+    // "Only an accepted install or a new cycle sets the start time"; A8: an accepted cycle
     pub fn with_start(self, t: Time) -> State
         ensures { λ r. ⌜ view r ≡ withStart (view self) (t .seconds) ⌝ }
     {
@@ -513,6 +513,14 @@ impl State {
             return false;
         }
         names::lost(self.snapshot.names, new)
+    }
+
+    // ---- Refusal 17: a start time earlier than the latest one, which is the one in force
+
+    pub fn is_earlier(self, start: Time) -> bool
+        ensures { λ r. ⌜ r ≡ earlierThan (start .seconds) (view self .start) ⌝ }
+    {
+        start.earlier(self.start)
     }
 
     // ---- What is told of the state

@@ -27,7 +27,7 @@ use Rattle.rules.specs.Steps.{findTable, faultNumber, judged, answer, refuses, 
 use Rattle.rules.specs.Asked.{Found, theImage, inTargets, found, comparedBy}
 use Rattle.rules.proofs.OptionLaws.{none-not-some, some-is}
 use Rattle.rules.proofs.ReadingLaws.{kept-says}
-use Rattle.rules.proofs.TableLaws.{fault-unlisted, judged-is, no-line}
+use Rattle.rules.proofs.TableLaws.{fault-other, judged-is, no-line}
 use Rattle.rules.proofs.SearchLaws.{not-searched, was-searched}
 use Rattle.answers.specs.Number.{numberOf}
 use Rattle.answers.proofs.MostLaws.{answer-most, named}
@@ -60,7 +60,7 @@ module _ (path file : Bytes) (t : TargetsRead) (w : viewTargetsRead t ≡ some (
 
   pub targets-fault : ¬ (t .answer ≡ 0) → ¬ (t .answer ≡ 15)
   unfolding viewTargetsRead
-  targets-fault x e = let d = read-refused _ _ _ _ w x in fault-unlisted (d .0) (d .2 ∙ e)
+  targets-fault x e = let d = read-refused _ _ _ _ w x in fault-other 15 (omega arith) (omega arith) (d .0) (d .2 ∙ e)
 
   pub targets-read : t .answer ≡ 0 → FileRead path file t
   unfolding viewTargetsRead seen

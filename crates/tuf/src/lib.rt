@@ -77,10 +77,14 @@ impl State {
         accepted(state::State::installed(read.root, start))
     }
 
-    // "New cycle: always succeeds"
+    // New cycle (A8: 17): refused with a start time earlier than the latest one that the state has had
     pub fn new_cycle(self, start: Time) -> Step
         ensures { λ r. ⌜ Steps self (newCycle (start .seconds)) (numberOf (r .answer)) (r .state) ⌝ }
     {
+        let answer = judge::judge_cycle(self.trusted, start);
+        if answer != 0 {
+            return self.refused(answer);
+        }
         accepted(self.trusted.with_start(start))
     }
 

@@ -1,4 +1,4 @@
--- `numbered` meets its contract: no number from 0 to 15 is left for its last line.
+-- `numbered` meets its contract: no number from 0 to 16 is left for its last line.
 use Prim.Native.Nat.{_≤_}
 use native.Mathlib.Omega.{arith}
 use borrow.Author.Needs.{needs}
@@ -54,13 +54,16 @@ returns-16 : tie.Need-returns-16
 returns-16 c = search needs
 
 returns-17 : tie.Need-returns-17
-returns-17 c =
+returns-17 c = search needs
+
+returns-18 : tie.Need-returns-18
+returns-18 c =
     let n = c .before .args .n in
     let z = c .match .rest in
-    let h5 : 5 ≤ n = omega (arith, (z .0 .0 .0 .0 .0 .0 .0 .0 .0 .0 .0 .0 .0 .0 .0 .1), (z .0 .0 .0 .0 .0 .0 .0 .0 .0 .0 .0 .0 .0 .0 .1), (z .0 .0 .0 .0 .0 .0 .0 .0 .0 .0 .0 .0 .0 .1), (z .0 .0 .0 .0 .0 .0 .0 .0 .0 .0 .0 .0 .1), (z .0 .0 .0 .0 .0 .0 .0 .0 .0 .0 .0 .1)) in
-    let h10 : 10 ≤ n = omega (arith, h5, (z .0 .0 .0 .0 .0 .0 .0 .0 .0 .0 .1), (z .0 .0 .0 .0 .0 .0 .0 .0 .0 .1), (z .0 .0 .0 .0 .0 .0 .0 .0 .1), (z .0 .0 .0 .0 .0 .0 .0 .1), (z .0 .0 .0 .0 .0 .0 .1)) in
-    let h16 : 16 ≤ n = omega (arith, h10, (z .0 .0 .0 .0 .0 .1), (z .0 .0 .0 .0 .1), (z .0 .0 .0 .1), (z .0 .0 .1), (z .0 .1), (z .1)) in
-    omega (arith, h16)
+    let h6 : 6 ≤ n = omega (arith, (z .0 .0 .0 .0 .0 .0 .0 .0 .0 .0 .0 .0 .0 .0 .0 .0 .1), (z .0 .0 .0 .0 .0 .0 .0 .0 .0 .0 .0 .0 .0 .0 .0 .1), (z .0 .0 .0 .0 .0 .0 .0 .0 .0 .0 .0 .0 .0 .0 .1), (z .0 .0 .0 .0 .0 .0 .0 .0 .0 .0 .0 .0 .0 .1), (z .0 .0 .0 .0 .0 .0 .0 .0 .0 .0 .0 .0 .1), (z .0 .0 .0 .0 .0 .0 .0 .0 .0 .0 .0 .1)) in
+    let h12 : 12 ≤ n = omega (arith, h6, (z .0 .0 .0 .0 .0 .0 .0 .0 .0 .0 .1), (z .0 .0 .0 .0 .0 .0 .0 .0 .0 .1), (z .0 .0 .0 .0 .0 .0 .0 .0 .1), (z .0 .0 .0 .0 .0 .0 .0 .1), (z .0 .0 .0 .0 .0 .0 .1), (z .0 .0 .0 .0 .0 .1)) in
+    let h17 : 17 ≤ n = omega (arith, h12, (z .0 .0 .0 .0 .1), (z .0 .0 .0 .1), (z .0 .0 .1), (z .0 .1), (z .1)) in
+    omega (arith, h17)
 
 pub numbered-spec : {M : Type 1} → statement M
 numbered-spec =
@@ -82,4 +85,5 @@ numbered-spec =
     returns-14
     returns-15
     returns-16
-    returns-17)
+    returns-17
+    returns-18)
