@@ -1,6 +1,6 @@
 /*
- * The clock does not walk back (change request A8), from C and C++: a new cycle with a start time earlier than the latest one that the state
- * has had is 17 and changes nothing. The last line is 'N passed, M failed'.
+ * The clock does not walk back (change request A8), from C and C++: a new cycle with a start time earlier than the latest one that the
+ * state has had is 17 and changes nothing. The last line is 'N passed, M failed'.
  */
 #include "tests.h"
 

@@ -310,7 +310,7 @@ static const visit VISITS[] = {
     {"A flat battery, 2000-01-01T00:00:00Z", 946684800, "timestamp-41.json", "snapshot-7.json", "targets-3.json", IMAGE},
 };
 
-/* Whether the image may go into the gate. A refusal ends the visit, also of the new cycle, where the clock went back; "no news" does not. */
+/* Whether the image may go into the gate. A refusal ends the visit, also of the new cycle, if the clock went back; "no news" does not. */
 static bool update(const visit *v)
 {
     gw_answer answer;

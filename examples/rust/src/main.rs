@@ -151,7 +151,7 @@ impl Controller {
         answer
     }
 
-    /// Lets the image in, or says why not. A refusal ends the visit, also of the new cycle, where the clock went back; "no news" does not.
+    /// Lets the image in, or says why not. A refusal ends the visit, also of the new cycle, if the clock went back; "no news" does not.
     fn update(&mut self, visit: &Visit) -> Result<(), Refusal> {
         self.new_cycle(visit.clock)?;
         while self.next_root() {}
