@@ -1,5 +1,5 @@
 //! Small files, for more than one file of tests: one key signs every role.
-#![allow(dead_code)] // no file of tests uses all of it
+#![allow(dead_code)] // not every file of tests uses all of it
 
 use gronwythal::{Refusal, State};
 use std::fmt::Display;
