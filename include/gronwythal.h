@@ -39,8 +39,8 @@ extern "C" {
 #define GW_SIGNATURE_SIZE 64   /* bytes of a signature */
 
 /* ---- Answers: the lowest number whose condition holds, of those that the call uses; 0 if none. Only GW_OTHER_KEYID is out of this order:
-   it is tried between 3 and 4. Each call below says in brackets which refusals it uses. A call that does not answer GW_ACCEPTED has
-   changed nothing, but for gw_install. */
+   it is tried between 3 and 4. GW_EARLIER_START is used by gw_new_cycle alone, which uses no other. Each call below says in brackets which
+   refusals it uses. A call that does not answer GW_ACCEPTED has changed nothing, but for gw_install. */
 
 typedef enum gw_answer {
     GW_ACCEPTED = 0,
@@ -59,7 +59,8 @@ typedef enum gw_answer {
     GW_WENT_BACK = 13,     /* a listed version went back, or a name vanished */
     GW_FILE_EXPIRED = 14,  /* the offered file has expired */
     GW_NOT_LISTED = 15,    /* not listed */
-    GW_OTHER_KEYID = 16    /* a keyid in a key table is not the digest of its key */
+    GW_OTHER_KEYID = 16,   /* a keyid in a key table is not the digest of its key */
+    GW_EARLIER_START = 17  /* start time earlier than the latest one the state has had */
 } gw_answer;
 
 /* ---- Values */
@@ -123,7 +124,7 @@ typedef struct gw_version {
     uint64_t number;
 } gw_version;
 
-/* The held versions, and the start time in force, in seconds from 1970-01-01T00:00:00Z. */
+/* The held versions, and the start time in force, in seconds from 1970-01-01T00:00:00Z: the latest one that the state has had. */
 typedef struct gw_versions {
     gw_version root;
     gw_version timestamp;
@@ -195,7 +196,8 @@ static inline void gw_blank(gw_state *state)
 
 /*
  * The root from the factory, judged by its own root role (1 to 5, 10, 16): one row, of verdicts under the keys that the file itself lists.
- * It begins a new history: what `state` held is gone, and after a refusal it is the blank state. Expiry does not matter here.
+ * It begins a new history: what `state` held is gone, its start time too, and after a refusal it is the blank state. Expiry does not
+ * matter here.
  */
 static inline gw_answer gw_install(gw_state *state, const uint8_t *file, size_t file_len, const uint8_t *row, size_t row_len,
                                    int64_t start)
@@ -204,7 +206,12 @@ static inline gw_answer gw_install(gw_state *state, const uint8_t *file, size_t 
     return gw_stored_(state, &step);
 }
 
-/* A new update cycle at that time, in seconds from 1970-01-01T00:00:00Z, by which expiry is judged from here on. Always accepted. */
+/*
+ * A new update cycle (17) at that time, in seconds from 1970-01-01T00:00:00Z, by which expiry is judged from here on. A time earlier than
+ * the start time in force is refused, so that nothing that has expired is found fresh by a clock that went back. The same time passes, and
+ * on the blank state, whose time is the lowest, any. After a refusal the calls go on by the start time in force. A clock that ran far
+ * ahead is not taken back by a cycle either: only gw_install, which begins a new history, sets an earlier time.
+ */
 static inline gw_answer gw_new_cycle(gw_state *state, int64_t start)
 {
     gw_step step = gronwythal_new_cycle(*state, start);

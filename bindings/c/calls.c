@@ -3,32 +3,11 @@
  * and the requests that amend it. Those of the files in examples/shelf, whose folder is the argument, are the answers of the stories there.
  * The last line is 'N passed, M failed'.
  */
-#include <stdio.h>
 #include <stdlib.h>
-#include <string.h>
 
-#include "gronwythal.h"
-
-static int passed, failed;
-
-static void expect(int line, const char *what, long long stated, long long given)
-{
-    if (stated == given) {
-        passed++;
-        return;
-    }
-    failed++;
-    printf("calls.c:%d: %s: stated %lld, given %lld\n", line, what, stated, given);
-}
-
-#define EXPECT(stated, call) expect(__LINE__, #call, (long long)(stated), (long long)(call))
+#include "tests.h"
 
 /* ---- Files, digests and clocks of the shelf */
-
-typedef struct file {
-    uint8_t at[4096];
-    size_t len;
-} file;
 
 static const char *shelf;
 
@@ -46,20 +25,6 @@ static file taken(const char *name)
     }
     f.len = fread(f.at, 1, sizeof f.at, stream);
     fclose(stream);
-    return f;
-}
-
-/* The file with its first `from` replaced by `to`, which has as many bytes. */
-static file changed(file f, const char *from, const char *to)
-{
-    size_t len = strlen(from), at = 0;
-    while (at + len <= f.len && memcmp(f.at + at, from, len) != 0) {
-        at++;
-    }
-    EXPECT(1, at + len <= f.len && strlen(to) == len);
-    if (at + len <= f.len) {
-        memcpy(f.at + at, to, len);
-    }
     return f;
 }
 
@@ -81,13 +46,6 @@ static const char *const ROOT_A = "c2220a4f3b368395bb6445ec9b9ee76db0ab7eec6dfed
 static const char *const ROOT_A_PUBLIC = "ce5414f9b01382ca0daa4f0789934e31aef250d3d813e1c3ebeed39efa593142";
 static const char *const OLD_TIMESTAMP_KEY = "339e94e13ab493088fab6d948104bd8b10ccbbdfa50e4aa2c3962f88a5382cb5";
 static const int64_t MORNING = 1772431200; /* 2026-03-02T06:00:00Z */
-
-static const uint8_t GOOD[GW_MAX_ENTRIES] = {1, 1};
-
-static const uint8_t *text(const char *s)
-{
-    return (const uint8_t *)s;
-}
 
 /* ---- What is held, as four versions in one number: 0 for one that is not held */
 
@@ -152,6 +110,8 @@ static void nothing_at_all(void)
     EXPECT(GW_ACCEPTED, gw_new_cycle(&state, -5));
     EXPECT(0, held(&state));
     EXPECT(-5, gw_held(&state).start);
+    EXPECT(GW_EARLIER_START, gw_new_cycle(&state, -6));
+    EXPECT(-5, gw_held(&state).start);
     EXPECT(GW_NOT_TEXT, gw_install(&state, NULL, 0, NULL, 0, 7));
     EXPECT(1, gw_held(&state).start == INT64_MIN);
 }
@@ -211,6 +171,8 @@ static void an_update(void)
     EXPECT(GW_BAD_ARGUMENT, gw_install(&state, root_1.at, root_1.len, GOOD, 1, MORNING));
     EXPECT(GW_ACCEPTED, gw_install(&state, root_1.at, root_1.len, GOOD, 2, MORNING - 1));
     EXPECT(1000000000, held(&state));
+    EXPECT(MORNING - 1, gw_held(&state).start);
+    EXPECT(GW_EARLIER_START, gw_new_cycle(&state, MORNING - 2));
     EXPECT(MORNING - 1, gw_held(&state).start);
     EXPECT(GW_ACCEPTED, gw_new_cycle(&state, MORNING));
     EXPECT(MORNING, gw_held(&state).start);
@@ -293,12 +255,7 @@ static void a_stolen_laptop(void)
 
 /* ---- Names compared: those smaller than the path, byte by byte with escapes undone, and one more where one is left */
 
-#define ONES_16 "1111111111111111"
-#define ONES_64 ONES_16 ONES_16 ONES_16 ONES_16
 #define TARGETS_KEY "8b24afe09225855d1fd1d022888306a7c99439d089e64aacdf467bc94913a3ff"
-
-/* An image of that name, as a file writes it. */
-#define LISTED(name, length) "\"" name "\":{\"hashes\":{\"sha256\":\"" ONES_64 "\"},\"length\":" #length "}"
 
 /* A targets file that snapshot 7 lists. */
 #define TARGETS(images) \
@@ -313,15 +270,6 @@ static void a_stolen_laptop(void)
 static const char SIX_NAMES[] = TARGETS(LISTED("a", 5) "," LISTED("a!", 6) "," LISTED("a\\\"", 7) ","
                                         LISTED("a#", 8) "," LISTED(LONGEST, 9) "," LISTED("\303\251", 10));
 static const char NO_NAMES[] = TARGETS("");
-
-static file written(const char *content)
-{
-    file f;
-    memset(&f, 0, sizeof f);
-    f.len = strlen(content);
-    memcpy(f.at, content, f.len);
-    return f;
-}
 
 /* The state after an update to that targets file. */
 static gw_state holding(const file *targets)
@@ -419,87 +367,6 @@ static void no_names_compared(void)
 
 /* ---- Versions, from 1 to 9,007,199,254,740,991, in every place that holds one. In these files one key signs every role. */
 
-#define B_16 "bbbbbbbbbbbbbbbb"
-#define KEY "{\"keytype\":\"ed25519\",\"keyval\":{\"public\":\"" B_16 B_16 B_16 B_16 "\"},\"scheme\":\"ed25519\"}"
-#define KEYID "72164dd0dd21502e17f1d57bfb21b4a44ec536df765ca2c57fdc9514846c4a7c" /* the digest of KEY, by sha256sum */
-#define ONE_KEY "{\"keyids\":[\"" KEYID "\"],\"threshold\":1}"
-#define EXPIRES "\"expires\":\"2030-01-01T00:00:00Z\""
-
-#define SMALL(signed_part) \
-    "{\"signatures\":[{\"keyid\":\"" KEYID "\",\"sig\":\"" ONES_64 ONES_64 "\"}],\"signed\":" signed_part "}"
-#define SMALL_ROOT(version) \
-    SMALL("{\"_type\":\"root\",\"consistent_snapshot\":false," EXPIRES ",\"keys\":{\"" KEYID "\":" KEY "}," \
-          "\"roles\":{\"root\":" ONE_KEY ",\"snapshot\":" ONE_KEY ",\"targets\":" ONE_KEY ",\"timestamp\":" ONE_KEY "}," \
-          "\"spec_version\":\"1\",\"version\":" version "}")
-#define SMALL_TIMESTAMP(version, snapshot) \
-    SMALL("{\"_type\":\"timestamp\"," EXPIRES ",\"meta\":{\"snapshot.json\":{" snapshot "}}," \
-          "\"spec_version\":\"1\",\"version\":" version "}")
-#define SMALL_SNAPSHOT(version, other, targets) \
-    SMALL("{\"_type\":\"snapshot\"," EXPIRES ",\"meta\":{\"other.json\":{" other "},\"targets.json\":{" targets "}}," \
-          "\"spec_version\":\"1\",\"version\":" version "}")
-#define SMALL_TARGETS(version, images) \
-    SMALL("{\"_type\":\"targets\"," EXPIRES ",\"spec_version\":\"1\",\"targets\":{" images "},\"version\":" version "}")
-
-/* Versions are given as files write them: some are beyond every type. */
-static file root_of(const char *version)
-{
-    char content[4096];
-    snprintf(content, sizeof content, SMALL_ROOT("%s"), version);
-    return written(content);
-}
-
-static file timestamp_of(const char *version, const char *snapshot)
-{
-    char content[4096];
-    snprintf(content, sizeof content, SMALL_TIMESTAMP("%s", "\"version\":%s"), snapshot, version);
-    return written(content);
-}
-
-static file snapshot_of(const char *version, const char *other, const char *targets)
-{
-    char content[4096];
-    snprintf(content, sizeof content, SMALL_SNAPSHOT("%s", "\"version\":%s", "\"version\":%s"), other, targets, version);
-    return written(content);
-}
-
-static file targets_of(const char *version)
-{
-    char content[4096];
-    snprintf(content, sizeof content, SMALL_TARGETS("%s", LISTED("i", 5)), version);
-    return written(content);
-}
-
-static gw_answer install_small(gw_state *state, const file *f)
-{
-    return gw_install(state, f->at, f->len, GOOD, 1, 0);
-}
-
-static gw_answer offer_root(gw_state *state, const file *f)
-{
-    return gw_root(state, f->at, f->len, GOOD, 1, GOOD, 1);
-}
-
-static gw_answer offer_timestamp(gw_state *state, const file *f)
-{
-    return gw_timestamp(state, f->at, f->len, GOOD, 1);
-}
-
-static gw_answer offer_snapshot(gw_state *state, const file *f)
-{
-    return gw_snapshot(state, f->at, f->len, GOOD, 1);
-}
-
-static gw_answer offer_targets(gw_state *state, const file *f)
-{
-    return gw_targets(state, f->at, f->len, GOOD, 1);
-}
-
-static gw_answer find_in(const gw_state *state, const file *f)
-{
-    gw_image image;
-    return gw_find(state, f->at, f->len, text("i"), 1, &image);
-}
-
 typedef struct number {
     const char *written;
     uint64_t value; /* 0 where it is not a version */
@@ -528,27 +395,6 @@ static const number NUMBERS[] = {
 
 enum { NUMBER_COUNT = sizeof NUMBERS / sizeof *NUMBERS };
 
-/* The four versions by themselves, too large for held(): 0 for one that is not held */
-
-enum { ROOT, TIMESTAMP, SNAPSHOT, TARGETS_FILE, RECORDS };
-
-typedef struct held_versions {
-    uint64_t of[RECORDS];
-} held_versions;
-
-static bool holds(const gw_state *state, const held_versions *stated)
-{
-    const gw_versions v = gw_held(state);
-    const gw_version given[RECORDS] = {v.root, v.timestamp, v.snapshot, v.targets};
-    int i;
-    for (i = 0; i < RECORDS; i++) {
-        if (given[i].number != stated->of[i] || given[i].held != (stated->of[i] != 0)) {
-            return false;
-        }
-    }
-    return true;
-}
-
 /* An update in which every version is this one. */
 static void whole_update(const number *n)
 {
@@ -557,20 +403,20 @@ static void whole_update(const number *n)
     held_versions stated = {{0, 0, 0, 0}};
     gw_state state;
 
-    expect(__LINE__, n->written, GW_ACCEPTED, install_small(&state, &root));
+    EXPECT_OF(n->written, GW_ACCEPTED, install_small(&state, &root, 0));
     stated.of[ROOT] = n->value;
-    expect(__LINE__, n->written, true, holds(&state, &stated));
-    expect(__LINE__, n->written, GW_ACCEPTED, offer_timestamp(&state, &timestamp));
+    EXPECT_OF(n->written, true, holds(&state, &stated));
+    EXPECT_OF(n->written, GW_ACCEPTED, offer_timestamp(&state, &timestamp));
     stated.of[TIMESTAMP] = n->value;
-    expect(__LINE__, n->written, true, holds(&state, &stated));
-    expect(__LINE__, n->written, GW_ACCEPTED, offer_snapshot(&state, &snapshot));
+    EXPECT_OF(n->written, true, holds(&state, &stated));
+    EXPECT_OF(n->written, GW_ACCEPTED, offer_snapshot(&state, &snapshot));
     stated.of[SNAPSHOT] = n->value;
-    expect(__LINE__, n->written, true, holds(&state, &stated));
-    expect(__LINE__, n->written, GW_ACCEPTED, offer_targets(&state, &targets));
+    EXPECT_OF(n->written, true, holds(&state, &stated));
+    EXPECT_OF(n->written, GW_ACCEPTED, offer_targets(&state, &targets));
     stated.of[TARGETS_FILE] = n->value;
-    expect(__LINE__, n->written, true, holds(&state, &stated));
-    expect(__LINE__, n->written, GW_ACCEPTED, find_in(&state, &targets));
-    expect(__LINE__, n->written, 5, (long long)found(&state, targets.at, targets.len, text("i"), 1).length);
+    EXPECT_OF(n->written, true, holds(&state, &stated));
+    EXPECT_OF(n->written, GW_ACCEPTED, find_in(&state, &targets));
+    EXPECT_OF(n->written, 5, found(&state, targets.at, targets.len, text("i"), 1).length);
 }
 
 /* A first root whose number is not a version. */
@@ -579,8 +425,8 @@ static void refused_install(const number *n)
     const held_versions none = {{0, 0, 0, 0}};
     const file root = root_of(n->written);
     gw_state state;
-    expect(__LINE__, n->written, GW_BAD_FORM, install_small(&state, &root));
-    expect(__LINE__, n->written, true, holds(&state, &none));
+    EXPECT_OF(n->written, GW_BAD_FORM, install_small(&state, &root, 0));
+    EXPECT_OF(n->written, true, holds(&state, &none));
 }
 
 static void versions_of_whole_updates(void)
@@ -620,11 +466,11 @@ static update updated(int place, const number *n)
     u.version = n;
     u.targets = targets_of(at[OF_TARGETS]);
     u.held = held_after[place];
-    expect(__LINE__, n->written, GW_ACCEPTED, install_small(&u.state, &root));
-    expect(__LINE__, n->written, GW_ACCEPTED, offer_timestamp(&u.state, &timestamp));
-    expect(__LINE__, n->written, GW_ACCEPTED, offer_snapshot(&u.state, &snapshot));
-    expect(__LINE__, n->written, GW_ACCEPTED, offer_targets(&u.state, &u.targets));
-    expect(__LINE__, n->written, true, holds(&u.state, &u.held));
+    EXPECT_OF(n->written, GW_ACCEPTED, install_small(&u.state, &root, 0));
+    EXPECT_OF(n->written, GW_ACCEPTED, offer_timestamp(&u.state, &timestamp));
+    EXPECT_OF(n->written, GW_ACCEPTED, offer_snapshot(&u.state, &snapshot));
+    EXPECT_OF(n->written, GW_ACCEPTED, offer_targets(&u.state, &u.targets));
+    EXPECT_OF(n->written, true, holds(&u.state, &u.held));
     return u;
 }
 
@@ -728,12 +574,12 @@ static void offered(const offer *o, const update *u, const number *n)
     char what[128];
 
     snprintf(what, sizeof what, "%s: %s, then %s", o->name, u->version->written, n->written);
-    expect(__LINE__, what, answer, o->call(&state, n->written));
+    EXPECT_OF(what, answer, o->call(&state, n->written));
     if (answer == GW_ACCEPTED) {
         held_after.of[o->record] = o->own ? o->own : n->value;
     }
-    expect(__LINE__, what, true, holds(&state, &held_after));
-    expect(__LINE__, what, rises ? o->higher : GW_ACCEPTED, find_in(&state, &u->targets));
+    EXPECT_OF(what, true, holds(&state, &held_after));
+    EXPECT_OF(what, rises ? o->higher : GW_ACCEPTED, find_in(&state, &u->targets));
 }
 
 static void offered_after(const offer *o, const number *version)
@@ -772,7 +618,7 @@ static void lengths(void)
     const file beyond_of_other = changed(of_other, FITS, BEYOND), beyond_of_targets = changed(of_targets, FITS, BEYOND);
     gw_state state, listing;
 
-    EXPECT(GW_ACCEPTED, install_small(&state, &root));
+    EXPECT(GW_ACCEPTED, install_small(&state, &root, 0));
     EXPECT(GW_BAD_FORM, offer_timestamp(&state, &beyond_in_timestamp));
     listing = state;
     EXPECT(GW_ACCEPTED, offer_timestamp(&listing, &in_timestamp));

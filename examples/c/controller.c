@@ -137,6 +137,7 @@ static const char *const WORDS[] = {
     "the offered file has expired",
     "not listed",
     "a keyid in a key table is not the digest of its key",
+    "start time earlier than the latest one the state has had",
 };
 
 static bool said(gw_answer answer)
@@ -201,6 +202,12 @@ static bool install(const char *name, int64_t clock)
     r = verdicts(&own, &f);
     show_signed(&f, &r);
     return said(gw_install(&state, f.bytes, f.len, r.verdicts, r.len, clock));
+}
+
+static bool new_cycle(int64_t clock)
+{
+    printf("  new cycle: ");
+    return said(gw_new_cycle(&state, clock));
 }
 
 /* The next root, if the shelf has one and it is accepted. */
@@ -300,13 +307,16 @@ static const visit VISITS[] = {
     {"A stolen key, 2026-03-03T09:00:00Z", 1772528400, "timestamp-44-stolen-key.json", "snapshot-7.json", "targets-3.json", IMAGE},
     {"A forged signature, 2026-03-03T10:00:00Z", 1772532000, "timestamp-45-forged.json", "snapshot-7.json", "targets-3.json", IMAGE},
     {"Nothing new for a week, 2026-03-09T06:00:00Z", 1773036000, "timestamp-41.json", "snapshot-7.json", "targets-3.json", IMAGE},
+    {"A flat battery, 2000-01-01T00:00:00Z", 946684800, "timestamp-41.json", "snapshot-7.json", "targets-3.json", IMAGE},
 };
 
-/* Whether the image may go into the gate. A refusal ends the cycle; "no news" does not. */
+/* Whether the image may go into the gate. A refusal ends the visit, also of the new cycle, if the clock went back; "no news" does not. */
 static bool update(const visit *v)
 {
     gw_answer answer;
-    gw_new_cycle(&state, v->clock);
+    if (!new_cycle(v->clock)) {
+        return false;
+    }
     while (next_root()) {
     }
     answer = timestamp(v->timestamp);

@@ -80,9 +80,23 @@ impl State {
         answered(step.answer).map(|()| State(step.state))
     }
 
-    /// A new update cycle, which sets the start time by which expiry is judged, in seconds from 1970-01-01T00:00:00Z. Always accepted.
-    pub fn new_cycle(&mut self, start: i64) {
-        self.0 = raw::gronwythal_new_cycle(self.0, start).state;
+    /// A new update cycle (17), which sets the start time by which expiry is judged from here on, in seconds from 1970-01-01T00:00:00Z.
+    ///
+    /// A time earlier than the start time in force is refused, so that nothing that has expired is found fresh by a clock that went back.
+    /// The same time passes, and on the blank state, whose time is the lowest, any. After a refusal the calls go on by the start time in
+    /// force. A clock that ran far ahead is not taken back by a cycle either: only an [install](State::install), which begins a new
+    /// history, sets an earlier time.
+    ///
+    /// ```
+    /// use gronwythal::{Refusal, State};
+    ///
+    /// let mut state = State::blank();
+    /// assert_eq!(state.new_cycle(1772431200), Ok(()));
+    /// assert_eq!(state.new_cycle(946684800), Err(Refusal::EarlierStart));
+    /// assert_eq!(state.versions().start, 1772431200);
+    /// ```
+    pub fn new_cycle(&mut self, start: i64) -> Result<(), Refusal> {
+        self.kept(raw::gronwythal_new_cycle(self.0, start))
     }
 
     /// The next root (1 to 6, 9, 10, 11, 16), whose version is the held one plus one: the verdicts under the held root's keys, and those
@@ -178,7 +192,7 @@ fn version(told: raw::Version) -> Option<u64> {
 }
 
 /// What a state holds: each record's version, 1 to 9,007,199,254,740,991, and the start time in force, in seconds from
-/// 1970-01-01T00:00:00Z.
+/// 1970-01-01T00:00:00Z: the latest one that the state has had.
 #[derive(Clone, Copy, Debug, PartialEq, Eq)]
 pub struct Versions {
     /// The root's version, if one is held.

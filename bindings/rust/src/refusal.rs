@@ -3,8 +3,8 @@
 use core::error::Error;
 use core::fmt;
 
-/// Why a call is refused: document 01's table, with 16 of change request A1. A call answers with the lowest number whose condition holds, of
-/// those that it uses; only 16 is out of this order, tried between 3 and 4.
+/// Why a call is refused: document 01's table, with 16 of change request A1 and 17 of A8. A call answers with the lowest number whose
+/// condition holds, of those that it uses; only 16 is out of this order, tried between 3 and 4. A new cycle alone uses 17, and no other.
 #[derive(Clone, Copy, Debug, PartialEq, Eq, PartialOrd, Ord, Hash)]
 #[repr(u8)]
 #[non_exhaustive]
@@ -41,11 +41,13 @@ pub enum Refusal {
     NotListed = 15,
     /// A keyid in a key table is not the digest of its key.
     OtherKeyid = 16,
+    /// Start time earlier than the latest one the state has had.
+    EarlierStart = 17,
 }
 
 impl Refusal {
     /// Every refusal, by rising number.
-    pub const ALL: [Refusal; 16] = [
+    pub const ALL: [Refusal; 17] = [
         Refusal::TooLong,
         Refusal::NotText,
         Refusal::BadForm,
@@ -62,6 +64,7 @@ impl Refusal {
         Refusal::FileExpired,
         Refusal::NotListed,
         Refusal::OtherKeyid,
+        Refusal::EarlierStart,
     ];
 
     /// Its number in document 01's table.
@@ -94,6 +97,7 @@ impl Refusal {
             Refusal::FileExpired => "the offered file has expired",
             Refusal::NotListed => "not listed",
             Refusal::OtherKeyid => "a keyid in a key table is not the digest of its key",
+            Refusal::EarlierStart => "start time earlier than the latest one the state has had",
         }
     }
 }
@@ -109,7 +113,7 @@ impl Error for Refusal {}
 
 /// An answer of the archive: 0 is "accepted".
 ///
-/// No function of the archive answers above 16; that is proved. Another number means that the archive is of another version than this crate.
+/// No function of the archive answers above 17; that is proved. Another number means that the archive is of another version than this crate.
 pub(crate) fn answered(number: u8) -> Result<(), Refusal> {
     match (number, Refusal::numbered(number)) {
         (0, _) => Ok(()),

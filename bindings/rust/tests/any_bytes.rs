@@ -1,7 +1,7 @@
 //! Any bytes are answered: empty input, damaged files, noise, and states in the middle of an update. Nothing is stated of most answers but
 //! what document 01 says of all: a refusal leaves the state, what is refused is zeros, and the calls agree with one another.
 
-use gronwythal::{Refusal, State, check_image, entry, is_canonical, look, raw, sha256, signed_part};
+use gronwythal::{Refusal, State, Versions, check_image, entry, is_canonical, look, raw, sha256, signed_part};
 use std::fs;
 use std::path::Path;
 
@@ -65,13 +65,14 @@ fn offer(state: &State, file: &[u8], row: &[u8], path: &[u8]) {
         (targets.targets(file, row), targets),
     ];
     for (answer, after) in steps {
+        assert_ne!(answer, Err(Refusal::EarlierStart)); // which a new cycle alone uses
         if answer.is_err() {
             assert_eq!(after.versions(), state.versions());
         } else {
             assert_ne!(after.versions(), state.versions());
         }
     }
-    let _ = State::install(file, row, 0);
+    assert_ne!(State::install(file, row, 0).err(), Some(Refusal::EarlierStart));
     // No state here holds targets, so 6 if none of 1 to 4.
     let (image, compared) = state.find_counted(file, path);
     assert!(matches!(image.unwrap_err().number(), 1..=4 | 6));
@@ -209,10 +210,12 @@ fn lengths_beyond_the_limit() {
 
 #[test]
 fn any_clock() {
-    let mut state = middle();
+    let before = middle().versions();
     for start in [i64::MIN, -1, 0, i64::MAX] {
-        state.new_cycle(start);
-        assert_eq!(state.versions().start, start);
-        assert_eq!(state.versions().timestamp, Some(39));
+        let mut state = middle();
+        match state.new_cycle(start) {
+            Ok(()) => assert_eq!(state.versions(), Versions { start, ..before }),
+            Err(_) => assert_eq!(state.versions(), before),
+        }
     }
 }

@@ -83,7 +83,7 @@ impl Seen {
 }
 
 fn at(mut state: State, start: i64) -> State {
-    state.new_cycle(start);
+    state.new_cycle(start).unwrap();
     state
 }
 
@@ -146,6 +146,20 @@ fn an_accepted_install_holds_the_root_alone() {
     // No expiry check.
     let late = State::install(&root_of(1, "1970-01-01T00:00:00Z", "1"), GOOD, 5).unwrap();
     assert_eq!(late.versions().start, 5);
+}
+
+#[test]
+fn a_new_cycle_uses_17() {
+    Seen::on(at(with_targets(), 1000))
+        .step(17, |s| s.new_cycle(999))
+        .step(17, |s| s.new_cycle(i64::MIN))
+        .from(at(State::blank(), 1000))
+        .step(17, |s| s.new_cycle(999))
+        .saw(&[17]);
+    let mut state = with_targets();
+    assert_eq!(state.new_cycle(1000), Ok(()));
+    assert_eq!(state.new_cycle(1000), Ok(()));
+    assert_eq!(state.versions().start, 1000);
 }
 
 #[test]
@@ -471,23 +485,27 @@ fn text_alone() {
 
 #[test]
 fn refusals_have_the_numbers_and_words_of_the_paper() {
-    for (refusal, number) in Refusal::ALL.into_iter().zip(1..=16) {
+    for (refusal, number) in Refusal::ALL.into_iter().zip(1..=17) {
         assert_eq!(refusal.number(), number);
         assert_eq!(Refusal::numbered(number), Some(refusal));
     }
     assert_eq!(Refusal::numbered(0), None);
-    assert_eq!(Refusal::numbered(17), None);
+    assert_eq!(Refusal::numbered(18), None);
     assert_eq!(Refusal::WrongVersion.number(), 11);
     assert_eq!(Refusal::NoNews.to_string(), "same timestamp version: normal, no news");
+    assert_eq!(
+        Refusal::EarlierStart.to_string(),
+        "start time earlier than the latest one the state has had"
+    );
     let words: BTreeSet<String> = Refusal::ALL.iter().map(Refusal::to_string).collect();
-    assert_eq!(words.len(), 16);
+    assert_eq!(words.len(), 17);
 }
 
 #[test]
 fn a_clone_goes_its_own_way() {
     let state = installed();
     let mut other = state.clone();
-    other.new_cycle(77);
+    other.new_cycle(77).unwrap();
     assert_eq!((state.versions().start, other.versions().start), (0, 77));
     assert!(format!("{other:?}").contains("77"));
 }

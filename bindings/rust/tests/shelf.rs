@@ -62,10 +62,7 @@ fn played(state: &mut State, line: &str) -> String {
             *state = installed.unwrap_or_default();
             answer
         }
-        "cycle" => {
-            state.new_cycle(words[1].parse().unwrap());
-            0
-        }
+        "cycle" => number(&state.new_cycle(words[1].parse().unwrap())),
         "root" => number(&state.root(&arg(1), &arg(2), &arg(3))),
         "timestamp" => number(&state.timestamp(&arg(1), &arg(2))),
         "snapshot" => number(&state.snapshot(&arg(1), &arg(2))),
@@ -154,6 +151,11 @@ fn a_stolen_laptop() {
 #[test]
 fn versions_from_dates() {
     assert_eq!(play("7-versions-from-dates.txt"), 22);
+}
+
+#[test]
+fn a_flat_battery() {
+    assert_eq!(play("8-flat-battery.txt"), 26);
 }
 
 // ---- What the stories do not ask

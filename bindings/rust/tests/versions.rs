@@ -4,7 +4,7 @@
 mod small;
 
 use gronwythal::{Refusal, State};
-use small::{FAR, GOOD, assert_refused, changed, root, snapshot_of, targets, timestamp};
+use small::{FAR, GOOD, accepted, assert_refused, changed, root, snapshot_of, targets, timestamp};
 use std::cmp::Ordering;
 use std::fmt::Display;
 
@@ -66,14 +66,6 @@ fn with_timestamp(version: u64, snapshot: u64) -> State {
 /// The state after that snapshot, of version 1.
 fn with_snapshot(file: &[u8]) -> State {
     accepted(&with_timestamp(1, 1), |s| s.snapshot(file, GOOD))
-}
-
-/// The state after a call that answers 0.
-#[track_caller]
-fn accepted(state: &State, call: impl FnOnce(&mut State) -> Result<(), Refusal>) -> State {
-    let mut after = state.clone();
-    assert_eq!(call(&mut after), Ok(()), "{state:?}");
-    after
 }
 
 /// The held versions of root, timestamp, snapshot and targets.

@@ -104,6 +104,12 @@ impl Controller {
         })
     }
 
+    fn new_cycle(&mut self, clock: i64) -> Result<(), Refusal> {
+        let answer = self.state.new_cycle(clock);
+        println!("  new cycle: {}", words(answer));
+        answer
+    }
+
     /// The next root, if the shelf has one and it is accepted.
     fn next_root(&mut self) -> bool {
         let name = format!("root-{}.json", self.state.versions().root.unwrap_or(0) + 1);
@@ -145,9 +151,9 @@ impl Controller {
         answer
     }
 
-    /// Lets the image in, or says why not. A refusal ends the cycle; "no news" does not.
+    /// Lets the image in, or says why not. A refusal ends the visit, also of the new cycle, if the clock went back; "no news" does not.
     fn update(&mut self, visit: &Visit) -> Result<(), Refusal> {
-        self.state.new_cycle(visit.clock);
+        self.new_cycle(visit.clock)?;
         while self.next_root() {}
         match self.offer(visit.timestamp, State::timestamp) {
             Ok(_) => {
@@ -172,7 +178,7 @@ struct Visit {
     image: &'static str,
 }
 
-const VISITS: [Visit; 7] = [
+const VISITS: [Visit; 8] = [
     Visit {
         title: "An update, 2026-03-02T06:00:00Z",
         clock: 1772431200,
@@ -224,6 +230,14 @@ const VISITS: [Visit; 7] = [
     Visit {
         title: "Nothing new for a week, 2026-03-09T06:00:00Z",
         clock: 1773036000,
+        timestamp: "timestamp-41.json",
+        snapshot: "snapshot-7.json",
+        targets: "targets-3.json",
+        image: IMAGE,
+    },
+    Visit {
+        title: "A flat battery, 2000-01-01T00:00:00Z",
+        clock: 946684800,
         timestamp: "timestamp-41.json",
         snapshot: "snapshot-7.json",
         targets: "targets-3.json",

@@ -1,4 +1,5 @@
 //! Small files, for more than one file of tests: one key signs every role.
+#![allow(dead_code)] // not every file of tests uses all of it
 
 use gronwythal::{Refusal, State};
 use std::fmt::Display;
@@ -62,6 +63,14 @@ pub fn changed(file: Vec<u8>, from: &str, to: &str) -> Vec<u8> {
     let text = String::from_utf8(file).unwrap();
     assert!(text.contains(from));
     text.replacen(from, to, 1).into_bytes()
+}
+
+/// The state after a call that answers 0.
+#[track_caller]
+pub fn accepted(state: &State, call: impl FnOnce(&mut State) -> Result<(), Refusal>) -> State {
+    let mut after = state.clone();
+    assert_eq!(call(&mut after), Ok(()), "{state:?}");
+    after
 }
 
 /// The call is refused with that number and leaves the state as it was.
