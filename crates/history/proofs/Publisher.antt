@@ -3,12 +3,16 @@
 use mathlib.Core.Path.{_≡_, refl, ap, _∙_}
 use mathlib.Core.Option.{some}
 use mathlib.Core.List.{List, [], _∷_}
+use lib.IntN.{ℤ}
+use lib.Signed.{_≤ℤ_}
+use Rattle.date.proofs.OrderLaws.{≤ℤ-trans}
 use Rattle.rules.specs.State.{Root, State, Call, newRoot, newTimestamp, newSnapshot}
 use Rattle.rules.specs.Steps.{next, withRoot, withTimestamp, withSnapshot, withTargets}
 use Rattle.rules.specs.Exactly.{RootGood, TimestampGood, SnapshotGood, TargetsGood, LeansOnRoot, LeansOnTimestamp, LeansOnSnapshot}
-use Rattle.rules.specs.History.{run, Quiet, RootTurn, Plan, atRoot, afterRoots, atTimestamp, atSnapshot, atTargets, lastRoot, InTurn, QuietRoots, Honest, RootsThrough, Through}
+use Rattle.rules.specs.History.{run, Quiet, RootTurn, Plan, atRoot, afterRoots, atTimestamp, atSnapshot, atTargets, lastRoot, InTurn, QuietRoots, Fresh, Honest, RootsThrough, Through}
 use Rattle.rules.proofs.ExactlyLaws.{good-root, root-after, good-timestamp, timestamp-after, good-snapshot, snapshot-after, good-targets, targets-after}
 use Rattle.history.proofs.Trusted.{SameRecords, same-is, same-trans, idle-same}
+use Rattle.history.proofs.Clock.{clock-next, clock-run}
 
 -- ## What comes between
 
@@ -147,3 +151,24 @@ through s held e p h =
       holdsSnapshot = ap (λ (x : State). x .snapshot) f₃ ∙ onSnapshot .snapshotHeld;
       holdsTargets = ap (λ (x : State). x .targets) f₃;
     }
+
+-- ## The clock (A8)
+
+-- what is fresh at a start time is fresh at any before it
+fresh-before : (r : Root) (p : Plan) {start later : ℤ} → start ≤ℤ later → Fresh r p later → Fresh r p start
+fresh-before r p l f =
+    record {
+      ofRoot = λ e. f .ofRoot (≤ℤ-trans e l);
+      ofTimestamp = λ e. f .ofTimestamp (≤ℤ-trans e l);
+      ofSnapshot = λ e. f .ofSnapshot (≤ℤ-trans e l);
+      ofTargets = λ e. f .ofTargets (≤ℤ-trans e l);
+    }
+
+-- so a publisher whose files are fresh at the targets call had them fresh at the two calls before it
+pub fresh-at-last : (s : State) (r : Root) (p : Plan) → Fresh r p (atTargets s p .start)
+    → Fresh r p (atTimestamp s p .start) × Fresh r p (atSnapshot s p .start)
+fresh-at-last s r p f =
+    let to-targets = ≤ℤ-trans (clock-next (atSnapshot s p) _) (clock-run _ (p .targets .between)) in
+    let to-snapshot = ≤ℤ-trans (clock-next (atTimestamp s p) _) (clock-run _ (p .snapshot .between)) in
+    let g = fresh-before r p to-targets f in
+    (fresh-before r p to-snapshot g, g)
