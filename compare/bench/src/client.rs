@@ -79,8 +79,7 @@ impl<F: Forms + Clone> Client for State<F> {
     }
 
     fn new_cycle(&mut self, start: i64) -> u8 {
-        self.new_cycle(start);
-        0
+        number_of(&self.new_cycle(start))
     }
 
     fn root(&mut self, file: &[u8], held_row: &[u8], own_row: &[u8]) -> u8 {

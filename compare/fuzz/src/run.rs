@@ -91,8 +91,12 @@ fn shown(seed: u64, number: usize, made: &Move, difference: &str) -> String {
 /// Whether the state after a call is the one before it: "A refusal returns the state it was given", and so does a question.
 fn leaves_the_state(call: &Call, number: u8) -> bool {
     match call {
-        Call::Install { .. } | Call::Cycle(_) => false,
-        Call::Root { .. } | Call::Timestamp { .. } | Call::Snapshot { .. } | Call::Targets { .. } => number != 0,
+        Call::Install { .. } => false,
+        Call::Cycle(_)
+        | Call::Root { .. }
+        | Call::Timestamp { .. }
+        | Call::Snapshot { .. }
+        | Call::Targets { .. } => number != 0,
         _ => true,
     }
 }
