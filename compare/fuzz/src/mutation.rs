@@ -296,7 +296,7 @@ mod tests {
                 };
                 clocks.push(clock);
             }
-            let count = |accepts: fn(&i64, &i64) -> bool| clocks.iter().filter(|clock| accepts(clock, &start)).count();
+            let count = |holds: fn(&i64, &i64) -> bool| clocks.iter().filter(|clock| holds(clock, &start)).count();
             let (earlier, equal, later) = (count(i64::lt), count(i64::eq), count(i64::gt));
             assert!(earlier > 100 || start == i64::MIN, "{earlier} before {start}");
             assert!(later > 100 || start == i64::MAX, "{later} after {start}");

@@ -73,7 +73,7 @@ impl Source {
     fn go_on_with(&mut self, call: Call, state: &State) {
         for _ in 0..self.random.pick(&[0, 1, 1, 2]) {
             let call = self.mutated(&call, state.time);
-            // Now and then the history goes on from there.
+            // Now and then the history goes on from there, unless it could not.
             let aside = !self.random.one_in(12) || runs_ahead(&call, state.time);
             self.waiting.push_back(Move { call, aside });
         }
@@ -133,8 +133,8 @@ impl Source {
     }
 }
 
-/// Whether a cycle goes more than a second beyond the start time in force. No later one takes the clock back (A8), so that the
-/// files of the history would be expired from there on.
+/// Whether a cycle goes more than a second beyond the start time in force. No later one takes the clock back (A8), so the
+/// files of the history might all be expired from there on.
 fn runs_ahead(call: &Call, start: i64) -> bool {
     matches!(call, Call::Cycle(time) if *time > start.saturating_add(1))
 }

@@ -1,6 +1,5 @@
 //! Stands in for the library in the tests. It answers with paper's answers, but for one mistake.
 
-use paper::refusal::Refusal;
 use paper::script::Call;
 use paper::state::State;
 
@@ -170,7 +169,7 @@ impl StandIn {
             _ => return said,
         };
         state.time = if accepted { start } else { time };
-        number(if accepted { 0 } else { Refusal::EarlierStart.number() })
+        number(if accepted { 0 } else { 17 })
     }
 
     /// The latest start time after a call. "Install starts the record anew", but for a mistake.
