@@ -16,7 +16,7 @@ pub trait Client: Clone {
     /// Install, and the state after it.
     fn install(file: &[u8], row: &[u8], start: i64) -> (u8, Self);
 
-    /// New cycle.
+    /// New cycle; refused if the start time is earlier than the one in force (A8).
     fn new_cycle(&mut self, start: i64) -> u8;
 
     /// Root.
@@ -79,8 +79,7 @@ impl<F: Forms + Clone> Client for State<F> {
     }
 
     fn new_cycle(&mut self, start: i64) -> u8 {
-        self.new_cycle(start);
-        0
+        number_of(&self.new_cycle(start))
     }
 
     fn root(&mut self, file: &[u8], held_row: &[u8], own_row: &[u8]) -> u8 {
@@ -115,5 +114,31 @@ impl<F: Forms + Clone> Client for State<F> {
     fn versions(&self) -> Versions {
         let (held, start) = self.versions();
         Versions { held, start }
+    }
+}
+
+#[cfg(test)]
+mod tests {
+    use super::{Client, Versions};
+    use crate::rattle;
+
+    /// A8: "A new cycle with an earlier one is refused with the new number 17 and changes nothing; an equal one passes."
+    fn expect_17_of_an_earlier_cycle<C: Client>() {
+        let mut state = C::blank();
+        for (start, answer, in_force) in [(5, 0, 5), (4, 17, 5), (5, 0, 5), (i64::MIN, 17, 5), (6, 0, 6)] {
+            assert_eq!(state.new_cycle(start), answer, "{start}");
+            let held = Versions {
+                held: [None; 4],
+                start: in_force,
+            };
+            assert_eq!(state.versions(), held, "{start}");
+        }
+    }
+
+    #[test]
+    fn an_earlier_cycle_is_refused_on_every_side() {
+        expect_17_of_an_earlier_cycle::<rattle::State>();
+        expect_17_of_an_earlier_cycle::<ordinary::State>();
+        expect_17_of_an_earlier_cycle::<onepass::State>();
     }
 }

@@ -89,7 +89,8 @@ impl Release {
         vec![install, self.timestamp(), self.snapshot(), self.targets()]
     }
 
-    /// A whole update: new cycle, root, timestamp, snapshot, targets and one find.
+    /// A whole update: new cycle, root, timestamp, snapshot, targets and one find. The cycle is later than the install, so
+    /// it is accepted (A8) and sets a time.
     pub fn update(&self) -> Vec<Call> {
         let root = Call::Root(self.root.clone(), self.row.clone());
         let steps = [

@@ -235,12 +235,16 @@ mod tests {
 
     #[test]
     fn what_is_refused_is_not_measured() {
-        let play = |text: &[u8]| Play {
+        let play = |calls: Vec<Call>| Play {
             before: Vec::new(),
-            parts: vec![vec![Call::Text(text.into())]],
+            parts: vec![calls],
         };
-        assert_eq!(check(&play(b"[]")), Ok(()));
-        assert!(check(&play(b"[ ]")).is_err());
+        let text = |text: &[u8]| play(vec![Call::Text(text.into())]);
+        assert_eq!(check(&text(b"[]")), Ok(()));
+        assert!(check(&text(b"[ ]")).is_err());
+        let cycles = |starts: [i64; 2]| play(starts.map(Call::NewCycle).to_vec());
+        assert_eq!(check(&cycles([7, 7])), Ok(()));
+        assert!(check(&cycles([7, 6])).is_err());
     }
 
     #[test]

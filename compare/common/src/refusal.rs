@@ -36,6 +36,8 @@ pub enum Refusal {
     NotListed = 15,
     /// A keyid of a key table is not "the hex digest of the canonical text of its key". Tried between 3 and 4.
     OtherKeyid = 16,
+    /// A8: "A new cycle with an earlier one", than "the latest start time it has had".
+    EarlierStart = 17,
 }
 
 /// The number that a call answers: that of the refusal, "0 if none".

@@ -63,9 +63,12 @@ impl<F: Forms> State<F> {
         })
     }
 
-    /// "New cycle: always succeeds."
-    pub fn new_cycle(&mut self, start: i64) {
+    /// New cycle (17). A8: one with an earlier start time than "the latest start time it has had" is refused; "an equal one
+    /// passes". None is set but by an accepted install or cycle, so the one in force is the latest.
+    pub fn new_cycle(&mut self, start: i64) -> Result<(), Refusal> {
+        ensure(start >= self.start, Refusal::EarlierStart)?;
         self.start = start;
+        Ok(())
     }
 
     /// Root (1 to 6, 9, 10, 11, 16): the verdicts under the held root's keys, and those under its own.

@@ -51,8 +51,8 @@ impl<F: Forms> Player<F> {
                 self.step("install", number)
             }
             Call::Cycle(time) => {
-                self.state.new_cycle(*time);
-                self.step("cycle", 0)
+                let result = self.state.new_cycle(*time);
+                self.step("cycle", number_of(&result))
             }
             Call::Root {
                 file,

@@ -100,10 +100,7 @@ pub fn paper_says(state: &mut State, call: &Call) -> Option<Said> {
             *state = result.unwrap_or_default();
             said
         }
-        Call::Cycle(time) => {
-            state.cycle(*time);
-            number(0)
-        }
+        Call::Cycle(time) => step(state.cycle(*time)),
         Call::Root {
             file,
             held_row,

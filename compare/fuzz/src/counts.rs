@@ -91,6 +91,7 @@ mod tests {
             "is_canonical 1",
             "install 10",
             "install 16",
+            "cycle 17",
             "root 16",
             "sha256 0",
             "timestamp 12",

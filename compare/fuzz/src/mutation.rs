@@ -38,16 +38,16 @@ const NUMBERS: &[u64] = &[
     u64::MAX,
 ];
 
-/// The call after one change or several. Files may be mixed with `other`.
-pub fn mutated(call: &Call, other: &[u8], random: &mut Random) -> Call {
+/// The call after one change or several. Files may be mixed with `other`; `start` is the start time in force.
+pub fn mutated(call: &Call, other: &[u8], start: i64, random: &mut Random) -> Call {
     let mut call = call.clone();
     for _ in 0..random.pick(&[1, 1, 1, 2, 3]) {
-        change(&mut call, other, random);
+        change(&mut call, other, start, random);
     }
     call
 }
 
-fn change(call: &mut Call, other: &[u8], random: &mut Random) {
+fn change(call: &mut Call, other: &[u8], start: i64, random: &mut Random) {
     match call {
         Call::Text(bytes) | Call::Look(bytes) | Call::Sha256(bytes) => change_file(bytes, other, random),
         Call::Date(_) | Call::State => {}
@@ -58,10 +58,10 @@ fn change(call: &mut Call, other: &[u8], random: &mut Random) {
         Call::Key(keyid) => change_bytes(keyid, random),
         Call::Install { file, row, time } => match random.below(4) {
             0 => change_row(row, random),
-            1 => *time = clock(*time, random),
+            1 => *time = clock(*time, start, random),
             _ => change_root(file, other, random),
         },
-        Call::Cycle(time) => *time = clock(*time, random),
+        Call::Cycle(time) => *time = clock(*time, start, random),
         Call::Root {
             file,
             held_row,
@@ -196,13 +196,15 @@ fn number(random: &mut Random) -> u64 {
     random.pick(NUMBERS)
 }
 
-/// A clock a little before or after, or anywhere.
-fn clock(time: i64, random: &mut Random) -> i64 {
-    match random.below(4) {
+/// A clock a little before or after, or anywhere; as often about the start time in force, from which on a cycle passes (A8).
+fn clock(time: i64, start: i64, random: &mut Random) -> i64 {
+    match random.below(8) {
         0 => time.wrapping_add(1),
         1 => time.wrapping_sub(1),
         2 => number(random) as i64,
-        _ => time.wrapping_neg(),
+        3 => time.wrapping_neg(),
+        // Some with the same low 32 bits.
+        _ => start.wrapping_add(random.pick(&[-(1 << 32), -1, -1, 0, 0, 1, 1 << 32])),
     }
 }
 
@@ -250,7 +252,9 @@ mod tests {
                 fetched: (4, vec![9; 32]),
             },
         ] {
-            let others = (0..200).filter(|_| mutated(&call, &file, &mut random) != call).count();
+            let others = (0..200)
+                .filter(|_| mutated(&call, &file, 5, &mut random) != call)
+                .count();
             assert!(others > 120, "{others}: {call:?}");
         }
     }
@@ -269,7 +273,7 @@ mod tests {
                 file,
                 held_row,
                 own_row,
-            } = mutated(&call, b"[]", &mut random)
+            } = mutated(&call, b"[]", 0, &mut random)
             else {
                 panic!("another call")
             };
@@ -278,6 +282,28 @@ mod tests {
             changed[2] |= own_row != [0];
         }
         assert_eq!(changed, [true; 3]);
+    }
+
+    /// A8: "A new cycle with an earlier one is refused", "an equal one passes".
+    #[test]
+    fn clocks_are_earlier_equal_and_later() {
+        let mut random = Random::new(1, "mutation");
+        for (time, start) in [(1_700_000_000, 1_700_000_500), (-7, -7), (3, i64::MIN), (3, i64::MAX)] {
+            let mut clocks = Vec::new();
+            for _ in 0..1_000 {
+                let Call::Cycle(clock) = mutated(&Call::Cycle(time), b"[]", start, &mut random) else {
+                    panic!("another call")
+                };
+                clocks.push(clock);
+            }
+            let count = |holds: fn(&i64, &i64) -> bool| clocks.iter().filter(|clock| holds(clock, &start)).count();
+            let (earlier, equal, later) = (count(i64::lt), count(i64::eq), count(i64::gt));
+            assert!(earlier > 100 || start == i64::MIN, "{earlier} before {start}");
+            assert!(later > 100 || start == i64::MAX, "{later} after {start}");
+            assert!(equal > 50, "{equal} at {start}");
+            let ends = [i64::MIN, i64::MAX, start.wrapping_sub(1), start.wrapping_add(1)];
+            assert!(ends.iter().all(|end| clocks.contains(end)), "{start}");
+        }
     }
 
     /// How many of so many edited roots are refused with 16, and how many are accepted though a key is another.

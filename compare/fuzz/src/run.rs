@@ -91,8 +91,10 @@ fn shown(seed: u64, number: usize, made: &Move, difference: &str) -> String {
 /// Whether the state after a call is the one before it: "A refusal returns the state it was given", and so does a question.
 fn leaves_the_state(call: &Call, number: u8) -> bool {
     match call {
-        Call::Install { .. } | Call::Cycle(_) => false,
-        Call::Root { .. } | Call::Timestamp { .. } | Call::Snapshot { .. } | Call::Targets { .. } => number != 0,
+        Call::Install { .. } => false,
+        Call::Cycle(_) | Call::Root { .. } | Call::Timestamp { .. } | Call::Snapshot { .. } | Call::Targets { .. } => {
+            number != 0
+        }
         _ => true,
     }
 }
@@ -156,7 +158,7 @@ impl<'a, L: Library> Pair<'a, L> {
 mod tests {
     use super::{Shown, run};
     use crate::options::{Limit, Options};
-    use crate::stand_in::{MISTAKES, StandIn};
+    use crate::stand_in::{MISTAKES, MISTAKES_IN_BYTES, StandIn};
 
     fn tried(mistake: &'static str, calls: usize) -> Result<Shown, String> {
         let options = Options {
@@ -187,6 +189,18 @@ mod tests {
             for word in ["seed 1, call ", "library: ", "paper: ", "call: "] {
                 assert!(error.contains(word), "{mistake}: {error}");
             }
+        }
+    }
+
+    #[test]
+    fn a_mistake_in_bytes_alone_is_noticed_in_the_call_that_makes_it() {
+        for (mistake, call) in MISTAKES_IN_BYTES {
+            let error = tried(mistake, 40_000).expect_err(mistake);
+            assert!(error.contains(&format!(": {call}\n")), "{mistake}: {error}");
+            assert!(
+                error.contains("the bytes of the state have changed"),
+                "{mistake}: {error}"
+            );
         }
     }
 }

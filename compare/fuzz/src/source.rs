@@ -72,9 +72,9 @@ impl Source {
     /// A call of the history; before it mutated ones, behind it questions.
     fn go_on_with(&mut self, call: Call, state: &State) {
         for _ in 0..self.random.pick(&[0, 1, 1, 2]) {
-            let call = self.mutated(&call);
-            // Now and then the history goes on from there.
-            let aside = !self.random.one_in(12);
+            let call = self.mutated(&call, state.time);
+            // Now and then the history goes on from there, unless it could not.
+            let aside = !self.random.one_in(12) || runs_ahead(&call, state.time);
             self.waiting.push_back(Move { call, aside });
         }
         let question = self.question(&call, state);
@@ -84,13 +84,13 @@ impl Source {
     }
 
     /// A call mutated: most often the one that comes next, else one that was made.
-    fn mutated(&mut self, next: &Call) -> Call {
+    fn mutated(&mut self, next: &Call, start: i64) -> Call {
         let other = self.any_file();
         let call = match self.made.len() {
             count @ 1.. if self.random.one_in(3) => &self.made[self.random.below(count)],
             _ => next,
         };
-        mutated(call, &other, &mut self.random)
+        mutated(call, &other, start, &mut self.random)
     }
 
     /// A file of the history.
@@ -133,6 +133,12 @@ impl Source {
     }
 }
 
+/// Whether a cycle goes more than a second beyond the start time in force. No later one takes the clock back (A8), so the
+/// files of the history might all be expired from there on.
+fn runs_ahead(call: &Call, start: i64) -> bool {
+    matches!(call, Call::Cycle(time) if *time > start.saturating_add(1))
+}
+
 /// The file of a call that has one.
 fn file_of(call: &Call) -> Option<&Vec<u8>> {
     match call {
@@ -150,22 +156,24 @@ fn file_of(call: &Call) -> Option<&Vec<u8>> {
 
 #[cfg(test)]
 mod tests {
-    use super::{Move, Source};
+    use super::{Move, Source, runs_ahead};
     use crate::answers::paper_says;
+    use paper::script::Call;
     use paper::state::State;
 
     fn moves(seed: u64, count: usize) -> Vec<Move> {
-        let mut source = Source::new(seed);
-        let mut state = State::blank();
-        let next = |_| {
-            let next = source.next(&state);
-            match next.aside {
-                true => paper_says(&mut state.clone(), &next.call),
-                false => paper_says(&mut state, &next.call),
-            };
-            next
+        let (mut source, mut state) = (Source::new(seed), State::blank());
+        (0..count).map(|_| next_made(&mut source, &mut state)).collect()
+    }
+
+    /// Makes the next call of paper.
+    fn next_made(source: &mut Source, state: &mut State) -> Move {
+        let next = source.next(state);
+        match next.aside {
+            true => paper_says(&mut state.clone(), &next.call),
+            false => paper_says(state, &next.call),
         };
-        (0..count).map(next).collect()
+        next
     }
 
     #[test]
@@ -178,5 +186,35 @@ mod tests {
     fn some_calls_are_made_aside() {
         let aside = moves(1, 1_000).iter().filter(|one| one.aside).count();
         assert!((200..800).contains(&aside), "{aside}");
+    }
+
+    #[test]
+    fn of_the_cycles_that_run_ahead_only_the_historys_own_are_gone_on_with() {
+        let (mut source, mut state) = (Source::new(1), State::blank());
+        let mut start = state.time;
+        let (mut own, mut aside) = (0, 0);
+        for _ in 0..20_000 {
+            if source.waiting.is_empty() {
+                start = state.time;
+            }
+            let next = next_made(&mut source, &mut state);
+            if !runs_ahead(&next.call, start) {
+                continue;
+            }
+            if next.aside {
+                aside += 1;
+            } else {
+                assert_eq!(source.made.last(), Some(&next.call));
+                own += 1;
+            }
+        }
+        assert!(own > 50 && aside > 50, "{own} and {aside}");
+    }
+
+    #[test]
+    fn more_than_a_second_is_ahead() {
+        let ahead = [4, 5, 6, 7].map(|time| runs_ahead(&Call::Cycle(time), 5));
+        assert_eq!(ahead, [false, false, false, true]);
+        assert!(!runs_ahead(&Call::Cycle(i64::MAX), i64::MAX) && runs_ahead(&Call::Cycle(0), i64::MIN));
     }
 }

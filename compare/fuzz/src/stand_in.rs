@@ -3,7 +3,7 @@
 use paper::script::Call;
 use paper::state::State;
 
-use crate::answers::{Given, Held, Said, paper_says};
+use crate::answers::{Given, Held, Said, number, paper_says};
 use crate::library::{Lent, Library};
 
 /// The mistakes. Each is of a part of an answer, or of the state, that nothing else is compared for.
@@ -33,8 +33,30 @@ pub const MISTAKES: &[&str] = &[
     "version-of-what-is-not-held",
     "start-time",
     "refused-install-keeps-the-state",
+    "earlier-install-refused",
+    "cycle-number",
+    "earlier-cycle-accepted",
+    "earlier-cycle-accepted-if-nothing-is-held",
+    "lowest-cycle-accepted",
+    "equal-cycle-refused",
+    "cycle-compared-in-32-bits",
+    "cycle-compared-without-sign",
+    "cycle-compared-by-difference",
+    "cycle-compared-with-the-one-before-install",
+    "cycle-compared-with-the-one-before-refused-install",
+    "refused-cycle-sets-the-time",
     "refused-forgets-a-name",
+    "refused-cycle-forgets-a-name",
+    "refused-cycle-changes-the-record",
     "question-changes-the-state",
+];
+
+/// Those of the state that nothing else tells of than its bytes, and the calls that make them.
+pub const MISTAKES_IN_BYTES: &[(&str, &str)] = &[
+    ("refused-forgets-a-name", "snapshot"),
+    ("refused-cycle-forgets-a-name", "cycle"),
+    ("refused-cycle-changes-the-record", "cycle"),
+    ("question-changes-the-state", "key"),
 ];
 
 /// Paper with one mistake; with none if it is empty.
@@ -43,22 +65,39 @@ pub struct StandIn {
     pub mistake: &'static str,
 }
 
-impl Library for StandIn {
-    type State = State;
+/// Paper's state, and once more "the latest start time it has had" (A8), which only mistakes read.
+#[derive(Clone, Debug, PartialEq, Eq)]
+pub struct Kept {
+    paper: State,
+    latest: i64,
+}
 
-    fn blank(&self) -> State {
-        State::blank()
+impl Library for StandIn {
+    type State = Kept;
+
+    fn blank(&self) -> Kept {
+        let paper = State::blank();
+        let latest = paper.time;
+        Kept { paper, latest }
     }
 
-    fn call(&self, state: &mut State, call: &Lent) -> Said {
+    fn call(&self, state: &mut Kept, call: &Lent) -> Said {
         let call = owned(call);
         let before = state.clone();
-        let mut said = paper_says(state, &call).expect("a call of the C interface");
+        let mut said = paper_says(&mut state.paper, &call).expect("a call of the C interface");
+        if let Call::Cycle(start) = call {
+            said = self.cycle(&before, start, &mut state.paper, said);
+        }
+        state.latest = self.latest(&call, &said, &before, &state.paper);
         self.meddle_with_state(&call, &before, &said, state);
         match (self.mistake, &call, &mut said.given) {
             ("number", Call::Timestamp { .. }, _) if said.number == 12 => said.number = 11,
             ("install-number", Call::Install { .. }, _) if said.number == 10 => said.number = 9,
+            ("earlier-install-refused", Call::Install { time, .. }, _) if said.number == 0 && *time < before.latest => {
+                said.number = 17;
+            }
             ("keyid-number", Call::Root { .. }, _) if said.number == 16 => said.number = 4,
+            ("cycle-number", Call::Cycle(_), _) if said.number == 17 => said.number = 14,
             ("image-number", Call::Image { .. }, _) if said.number == 5 => said.number = 8,
             ("find-length", _, Given::Image(length, ..)) => *length &= 0x7fff_ffff,
             ("find-digest", _, Given::Image(_, digest, _)) => digest[31] = 0,
@@ -83,8 +122,8 @@ impl Library for StandIn {
         said
     }
 
-    fn held(&self, state: &State) -> Held {
-        let mut held = Held::of(state);
+    fn held(&self, state: &Kept) -> Held {
+        let mut held = Held::of(&state.paper);
         match self.mistake {
             "held-version" => held.versions[2].1 = held.versions[2].1.min(65_535),
             "held-version-in-32-bits" => held.versions[1].1 %= 1 << 32,
@@ -97,21 +136,61 @@ impl Library for StandIn {
 }
 
 impl StandIn {
-    fn meddle_with_state(&self, call: &Call, before: &State, said: &Said, state: &mut State) {
+    fn meddle_with_state(&self, call: &Call, before: &Kept, said: &Said, state: &mut Kept) {
         match (self.mistake, call) {
             ("refused-install-keeps-the-state", Call::Install { .. }) if said.number != 0 => *state = before.clone(),
-            ("refused-forgets-a-name", Call::Snapshot { .. }) if said.number == 13 => {
-                if let Some(held) = &mut state.snapshot {
-                    held.meta.pop_first();
-                }
-            }
+            ("refused-cycle-sets-the-time", Call::Cycle(start)) if said.number == 17 => state.paper.time = *start,
+            ("refused-forgets-a-name", Call::Snapshot { .. }) if said.number == 13 => forget_a_name(state),
+            ("refused-cycle-forgets-a-name", Call::Cycle(_)) if said.number == 17 => forget_a_name(state),
+            ("refused-cycle-changes-the-record", Call::Cycle(start)) if said.number == 17 => state.latest = *start,
             ("question-changes-the-state", Call::Key(_)) => {
-                if let Some(held) = &mut state.targets {
+                if let Some(held) = &mut state.paper.targets {
                     held.digest = "0".repeat(64);
                 }
             }
             _ => {}
         }
+    }
+
+    /// The answer to a cycle that is accepted or refused by mistake, and its time; else what paper says.
+    fn cycle(&self, before: &Kept, start: i64, state: &mut State, said: Said) -> Said {
+        let time = before.paper.time;
+        let accepted = match self.mistake {
+            "earlier-cycle-accepted" => true,
+            "earlier-cycle-accepted-if-nothing-is-held" => start >= time || before.paper.root.is_none(),
+            "lowest-cycle-accepted" => start >= time || start == i64::MIN,
+            "equal-cycle-refused" => start > time,
+            "cycle-compared-in-32-bits" => start as i32 >= time as i32,
+            "cycle-compared-without-sign" => start as u64 >= time as u64,
+            "cycle-compared-by-difference" => start.wrapping_sub(time) >= 0,
+            "cycle-compared-with-the-one-before-install" | "cycle-compared-with-the-one-before-refused-install" => {
+                start >= before.latest
+            }
+            _ => return said,
+        };
+        state.time = if accepted { start } else { time };
+        number(if accepted { 0 } else { 17 })
+    }
+
+    /// The latest start time after a call. "Install starts the record anew", but for a mistake.
+    fn latest(&self, call: &Call, said: &Said, before: &Kept, state: &State) -> i64 {
+        let is_anew = match (self.mistake, call) {
+            ("cycle-compared-with-the-one-before-install", Call::Install { .. }) => said.number != 0,
+            ("cycle-compared-with-the-one-before-refused-install", Call::Install { .. }) => said.number == 0,
+            (_, Call::Install { .. }) => true,
+            _ => false,
+        };
+        if is_anew {
+            state.time
+        } else {
+            before.latest.max(state.time)
+        }
+    }
+}
+
+fn forget_a_name(state: &mut Kept) {
+    if let Some(held) = &mut state.paper.snapshot {
+        held.meta.pop_first();
     }
 }
 

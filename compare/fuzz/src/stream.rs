@@ -152,6 +152,29 @@ mod tests {
         assert_eq!(record, parts.concat());
     }
 
+    /// A8: "refused with the new number 17 and changes nothing".
+    #[test]
+    fn a_refused_cycle() {
+        let made = Move {
+            call: Call::Cycle(-2),
+            aside: false,
+        };
+        let held = Held {
+            start: -1,
+            ..Held::of(&State::blank())
+        };
+        let mut record = Vec::new();
+        write(&mut record, 0, &made, &number(17), &held);
+        let parts: [&[u8]; 5] = [
+            b"C\0",
+            b"\xfe\xff\xff\xff\xff\xff\xff\xff",
+            b"\x11",
+            &[0; 36],
+            &[0xff; 8],
+        ];
+        assert_eq!(record, parts.concat());
+    }
+
     #[test]
     fn what_find_gives() {
         let made = Move {
