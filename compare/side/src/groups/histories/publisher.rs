@@ -9,6 +9,7 @@ use paper::state::State;
 
 use super::offers::{Offer, Plan};
 use super::signing::{Signing, sign};
+use crate::groups::told::{ACCEPTED, answer};
 use crate::random::Random;
 use crate::shelf::dates;
 use crate::shelf::files::{
@@ -530,7 +531,7 @@ pub fn root_answer(state: &State, held: &Root, new: &Root) -> Option<String> {
         kept(snapshot, drops_all),
         kept(targets, drops_targets),
     ];
-    Some(answer("root", versions, state.time))
+    Some(answer("root", ACCEPTED, &versions, state.time))
 }
 
 /// What an honest step answers.
@@ -552,20 +553,15 @@ pub fn step_answer(state: &State, plan: &Plan) -> Option<String> {
         }
         Plan::First(..) | Plan::Root(_) => return None,
     };
-    Some(answer(name, versions, state.time))
+    Some(answer(name, ACCEPTED, &versions, state.time))
 }
 
-fn versions(state: &State) -> [Option<u64>; 4] {
+/// The versions held.
+pub fn versions(state: &State) -> [Option<u64>; 4] {
     [
         state.root.as_ref().map(|held| held.header.version),
         state.timestamp.as_ref().map(|held| held.header.version),
         state.snapshot.as_ref().map(|held| held.header.version),
         state.targets.as_ref().map(|held| held.header.version),
     ]
-}
-
-fn answer(name: &str, versions: [Option<u64>; 4], time: i64) -> String {
-    let [root, timestamp, snapshot, targets] =
-        versions.map(|version| version.map_or("-".to_string(), |version| version.to_string()));
-    format!("{name} 0 root={root} timestamp={timestamp} snapshot={snapshot} targets={targets} time={time}")
 }
