@@ -548,6 +548,7 @@ fn blank_state(shelf: &mut Shelf) {
         shelf.state(&format!("{blank} time={time}"));
     };
     steps(shelf, i64::MIN);
+    shelf.cycle(-7);
     shelf.cycle(7);
     steps(shelf, 7);
     shelf.cycle_with(6, &format!("17 {blank} time=7"));
@@ -624,9 +625,10 @@ fn flat_battery(shelf: &mut Shelf) {
     shelf.cycle_with(NOW, &held(17, 4));
     shelf.find(b"image", refused(7));
 
-    // "Install starts the record anew.": the same list is fresh again.
+    // "Install starts the record anew.": the same list is fresh again, and the clock goes back no further.
     shelf.complete();
     shelf.find(b"image", image_found());
+    shelf.cycle_with(NOW - 1, &format!("17 {COMPLETE} time={NOW}"));
 }
 
 fn rotations(shelf: &mut Shelf) {
