@@ -184,11 +184,7 @@ const REFUSED_ROOTS: &[Made] = &[
 const OFFERS: &[Made] = &[
     |shelf| shelf.timestamp(4, 6, LATER, ACCEPTED),
     |shelf| shelf.snapshot(5, 8, LATER, ACCEPTED),
-    |shelf| {
-        shelf
-            .told
-            .offer(Kind::Targets, &targets_file(7, LATER - 1), 7, ACCEPTED)
-    },
+    |shelf| shelf.targets(7, LATER - 1, ACCEPTED),
 ];
 
 const REFUSED_OFFERS: &[Made] = &[
@@ -199,12 +195,8 @@ const REFUSED_OFFERS: &[Made] = &[
     |shelf| shelf.snapshot(6, 8, LATER, 11),
     |shelf| shelf.snapshot(5, 6, LATER, 13),
     |shelf| shelf.snapshot(5, 8, NOW, OFFERED_EXPIRED),
-    |shelf| shelf.told.offer(Kind::Targets, &targets_file(8, LATER), 8, 11),
-    |shelf| {
-        shelf
-            .told
-            .offer(Kind::Targets, &targets_file(7, NOW), 7, OFFERED_EXPIRED)
-    },
+    |shelf| shelf.targets(8, LATER, 11),
+    |shelf| shelf.targets(7, NOW, OFFERED_EXPIRED),
 ];
 
 /// Calls that are given the state and return none, and those that are given none.
@@ -305,8 +297,8 @@ const ALL_BUT_ROOT: [Kind; 3] = [Kind::Timestamp, Kind::Snapshot, Kind::Targets]
 #[derive(Default)]
 struct Shelf {
     told: Told,
-    /// The targets file that [`Shelf::complete`] had held.
-    targets: Vec<u8>,
+    /// The targets file that was accepted last.
+    list: Vec<u8>,
 }
 
 impl Shelf {
@@ -325,9 +317,7 @@ impl Shelf {
         self.told.install(&root, 1, time, ACCEPTED);
         self.timestamp(3, 5, expires(Kind::Timestamp), ACCEPTED);
         self.snapshot(5, 7, expires(Kind::Snapshot), ACCEPTED);
-        let targets = targets_file(7, expires(Kind::Targets));
-        self.told.offer(Kind::Targets, &targets, 7, ACCEPTED);
-        self.targets = targets.written();
+        self.targets(7, expires(Kind::Targets), ACCEPTED);
     }
 
     /// Offers a second root that has something else, and drops records by it.
@@ -356,29 +346,34 @@ impl Shelf {
         self.told.offer(Kind::Snapshot, &file, version, answer);
     }
 
+    fn targets(&mut self, version: u64, expires: i64, answer: u8) {
+        let file = targets_file(version, expires);
+        self.told.offer(Kind::Targets, &file, version, answer);
+        if answer == ACCEPTED {
+            self.list = file.written();
+        }
+    }
+
     /// Offers files of the roles that lean on the record that expires [`SOON`], and one of its own role that does so too.
     fn offer_expired(&mut self, expiring: Kind) {
-        let answer = |kind: Kind| match kind == expiring {
-            true => (SOON, OFFERED_EXPIRED),
-            false => (LATER, HELD_EXPIRED),
-        };
         for kind in &KINDS[expiring as usize..] {
-            let (expires, number) = answer(*kind);
+            let (expires, answer) = match *kind == expiring {
+                true => (SOON, OFFERED_EXPIRED),
+                false => (LATER, HELD_EXPIRED),
+            };
             match kind {
+                // "Expiry does not matter here."
                 Kind::Root => {}
-                Kind::Timestamp => self.timestamp(4, 5, expires, number),
-                Kind::Snapshot => self.snapshot(5, 7, expires, number),
-                Kind::Targets => {
-                    let file = targets_file(7, expires);
-                    self.told.offer(Kind::Targets, &file, 7, number);
-                }
+                Kind::Timestamp => self.timestamp(4, 5, expires, answer),
+                Kind::Snapshot => self.snapshot(5, 7, expires, answer),
+                Kind::Targets => self.targets(7, expires, answer),
             }
         }
     }
 
-    /// Looks for the image in the targets file held last.
+    /// Looks for the image in that file.
     fn find(&mut self, answer: String) {
-        let call = forms::find(&self.targets, "image");
+        let call = forms::find(&self.list, "image");
         self.ask(call, answer);
     }
 

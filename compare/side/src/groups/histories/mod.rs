@@ -1,5 +1,6 @@
 //! Whole histories: an honest publisher's files, and between them everything that an attacker, a careless caller or a
-//! wrong clock can do. What the publisher's own calls answer is known by the way they are made.
+//! wrong clock can do. What the publisher's own calls answer is known by the way they are made, and what a cycle answers by
+//! the start times before it.
 
 mod faults;
 mod offers;
@@ -188,8 +189,10 @@ impl History {
             None => self.script.open(call),
         };
         if let Some(time) = started {
-            let is_accepted = answer.starts_with("install 0 ");
-            self.clock = is_accepted.then(|| Clock::starting(time)).unwrap_or_default();
+            self.clock = match answer.starts_with("install 0 ") {
+                true => Clock::starting(time),
+                false => Clock::default(),
+            };
         }
         if answer.starts_with("targets 0 ") {
             self.targets.extend(targets);
