@@ -5,12 +5,16 @@ use crate::forms;
 use crate::hex;
 use crate::refusal::Refusal::{self, *};
 use crate::sha256;
-use crate::shelf::{self, EXPIRES, NOW, Root, digest, file, key_text, keyid, keyid_of, public};
+use crate::shelf::{self, EXPIRES, EXPIRY, NOW, Root, digest, file, key_text, keyid, keyid_of, public};
 use crate::state::{Found, State, image};
 
 /// A state that holds this root alone.
 fn installed(root: &Root) -> State {
-    State::install(&root.file(&[1, 2]), &[1, 1], NOW).unwrap()
+    installed_at(root, NOW)
+}
+
+fn installed_at(root: &Root, start: i64) -> State {
+    State::install(&root.file(&[1, 2]), &[1, 1], start).unwrap()
 }
 
 /// A state that holds a timestamp 3, a snapshot 5 with `a` at 9, and targets 7.
@@ -153,15 +157,15 @@ mod files_to_try {
     fn expires_1000() {
         let at_1000 = file(&[5], &shelf::timestamp(1, "1970-01-01T00:16:40Z", r#""version":1"#));
         for (start, answer) in [(999, Ok(())), (1000, Err(OfferedExpired)), (1001, Err(OfferedExpired))] {
-            let mut state = installed(&Root::new(1));
-            state.cycle(start);
+            let mut state = installed_at(&Root::new(1), 0);
+            assert_eq!(state.cycle(start), Ok(()));
             assert_eq!(state.timestamp(&at_1000, &[1]), answer, "{start}");
         }
         let mut root = Root::new(1);
         root.expires = "1970-01-01T00:16:40Z";
         for (start, answer) in [(999, Ok(())), (1000, Err(HeldExpired))] {
-            let mut state = installed(&root);
-            state.cycle(start);
+            let mut state = installed_at(&root, 0);
+            assert_eq!(state.cycle(start), Ok(()));
             assert_eq!(state.timestamp(&timestamp_file(1, 1), &[1]), answer, "{start}");
         }
     }
@@ -286,8 +290,8 @@ mod getting_it_wrong {
         let expires = "1969-12-31T23:59:59Z";
         let early = file(&[5], &shelf::timestamp(1, expires, r#""version":1"#));
         for (start, answer) in [(-2, Ok(())), (-1, Err(OfferedExpired)), (0, Err(OfferedExpired))] {
-            let mut state = installed(&Root::new(1));
-            state.cycle(start);
+            let mut state = installed_at(&Root::new(1), i64::MIN);
+            assert_eq!(state.cycle(start), Ok(()));
             assert_eq!(state.timestamp(&early, &[1]), answer, "{start}");
         }
     }
@@ -301,7 +305,7 @@ mod steps {
         assert_eq!(State::install(b"", &[], 7), Err(NotCanonical));
         let mut state = State::blank();
         assert_eq!(state.time, i64::MIN);
-        state.cycle(7);
+        assert_eq!(state.cycle(7), Ok(()));
         assert_eq!(state.root(&Root::new(2).file(&[1]), &[1], &[1]), Err(NotHeld));
         assert_eq!(state.timestamp(&timestamp_file(1, 1), &[1]), Err(NotHeld));
         assert_eq!(
@@ -508,16 +512,16 @@ mod steps {
     #[test]
     fn records_leaned_on_have_not_expired() {
         let mut state = complete();
-        state.cycle(1_893_456_000);
+        assert_eq!(state.cycle(EXPIRY - 1), Ok(()));
+        assert_eq!(found(&state, b"image"), Ok((0, hex::written(&digest(1)))));
+        let expired = snapshot_expiring(5, "2020-01-01T00:00:00Z", &[("a", 9), ("targets.json", 7)]);
+        assert_eq!(state.snapshot(&expired, &[1]), Err(OfferedExpired));
+        assert_eq!(state.cycle(EXPIRY), Ok(()));
         assert_eq!(found(&state, b"image"), Err(HeldExpired));
         assert_eq!(state.timestamp(&timestamp_file(4, 6), &[1]), Err(HeldExpired));
         let newer = snapshot_file(6, &[("targets.json", 8)]);
         assert_eq!(state.snapshot(&newer, &[1]), Err(HeldExpired));
         assert_eq!(state.targets(&targets_file(7), &[1]), Err(HeldExpired));
-        state.cycle(1_893_455_999);
-        assert_eq!(found(&state, b"image"), Ok((0, hex::written(&digest(1)))));
-        let expired = snapshot_expiring(5, "2020-01-01T00:00:00Z", &[("a", 9), ("targets.json", 7)]);
-        assert_eq!(state.snapshot(&expired, &[1]), Err(OfferedExpired));
     }
 
     #[test]
@@ -560,6 +564,158 @@ mod steps {
         assert_eq!(image((7, &one), (7, &other)), Err(Differs));
         assert_eq!(image((7, &one[..31]), (7, &one[..31])), Err(BrokenArgument));
         assert_eq!(image((7, &one), (8, &[1; 33])), Err(BrokenArgument));
+    }
+}
+
+/// A8: "The state keeps the latest start time it has had. A new cycle with an earlier one is refused with the new number 17
+/// and changes nothing; an equal one passes. [..] Install starts the record anew."
+mod clock {
+    use super::*;
+
+    /// About the ends of the range, of 32 bits and of the dates, in rising order.
+    const TIMES: [i64; 15] = [
+        i64::MIN,
+        i64::MIN + 1,
+        -62_167_219_200,
+        -(1 << 32),
+        -(1 << 31),
+        -1,
+        0,
+        1,
+        (1 << 31) - 1,
+        1 << 31,
+        1 << 32,
+        (1 << 32) + 1,
+        253_402_300_799,
+        i64::MAX - 1,
+        i64::MAX,
+    ];
+
+    /// Tries every time on this state. An accepted one sets the start time and nothing else; a refused one changes nothing.
+    fn tried(state: &State) {
+        for time in TIMES {
+            let mut next = state.clone();
+            let (answer, in_force) = match time < state.time {
+                true => (Err(EarlierStart), state.time),
+                false => (Ok(()), time),
+            };
+            assert_eq!(next.cycle(time), answer, "{time} after {}", state.time);
+            let expected = State {
+                time: in_force,
+                ..state.clone()
+            };
+            assert_eq!(next, expected, "{time} after {}", state.time);
+        }
+    }
+
+    #[test]
+    fn every_time_after_every_installed_one() {
+        for start in TIMES {
+            tried(&installed_at(&Root::new(1), start));
+        }
+    }
+
+    #[test]
+    fn every_time_after_every_cycle() {
+        for before in [State::blank(), installed_at(&Root::new(1), i64::MIN)] {
+            for start in TIMES {
+                let mut state = before.clone();
+                assert_eq!(state.cycle(start), Ok(()), "no time is earlier than the lowest count");
+                tried(&state);
+            }
+        }
+        let mut state = complete();
+        tried(&state);
+        assert_eq!(state.cycle(NOW + 1), Ok(()));
+        tried(&state);
+        assert_eq!(
+            state.cycle(NOW),
+            Err(EarlierStart),
+            "the installed one is not the latest"
+        );
+    }
+
+    #[test]
+    fn refused_ones_between_others_are_forgotten() {
+        let mut state = complete();
+        for (time, answer) in [
+            (NOW, Ok(())),
+            (NOW - 1, Err(EarlierStart)),
+            (NOW, Ok(())),
+            (NOW + 5, Ok(())),
+            (NOW + 4, Err(EarlierStart)),
+            (i64::MIN, Err(EarlierStart)),
+            (NOW + 5, Ok(())),
+            (NOW + 6, Ok(())),
+        ] {
+            assert_eq!(state.cycle(time), answer, "{time}");
+        }
+    }
+
+    /// "A flat battery put a controller into an earlier year and it found an expired list fresh."
+    #[test]
+    fn an_expired_list_stays_expired() {
+        let mut state = complete();
+        assert_eq!(state.cycle(EXPIRY), Ok(()));
+        for earlier in [EXPIRY - 1, NOW, 0, i64::MIN] {
+            let before = state.clone();
+            assert_eq!(state.cycle(earlier), Err(EarlierStart), "{earlier}");
+            assert_eq!(state, before);
+            assert_eq!(found(&state, b"image"), Err(HeldExpired));
+            assert_eq!(state.timestamp(&timestamp_file(4, 6), &[1]), Err(HeldExpired));
+        }
+    }
+
+    #[test]
+    fn an_offered_file_stays_expired() {
+        let mut root = Root::new(1);
+        root.expires = "2031-01-01T00:00:00Z";
+        let mut state = installed(&root);
+        for (time, answer) in [(EXPIRY, Ok(())), (NOW, Err(EarlierStart)), (EXPIRY, Ok(()))] {
+            assert_eq!(state.cycle(time), answer);
+            assert_eq!(state.timestamp(&timestamp_file(1, 1), &[1]), Err(OfferedExpired));
+        }
+    }
+
+    #[test]
+    fn an_install_starts_the_record_anew() {
+        let mut state = complete();
+        assert_eq!(state.cycle(i64::MAX), Ok(()));
+        assert_eq!(state.cycle(NOW), Err(EarlierStart));
+        let mut state = installed_at(&Root::new(1), NOW - 10);
+        assert_eq!(state.cycle(NOW - 11), Err(EarlierStart));
+        assert_eq!(state.cycle(NOW - 9), Ok(()));
+    }
+
+    #[test]
+    fn no_other_call_changes_the_record() {
+        let mut state = complete();
+        assert_eq!(state.cycle(NOW + 10), Ok(()));
+        let mut rotating = Root::new(3);
+        rotating.timestamp.0 = vec![6];
+        type Step<'a> = &'a dyn Fn(&mut State) -> Result<(), Refusal>;
+        let steps: [(Step, Result<(), Refusal>); 7] = [
+            (&|state| state.timestamp(&timestamp_file(3, 5), &[1]), Err(NoNews)),
+            (&|state| state.timestamp(&timestamp_file(4, 5), &[1]), Ok(())),
+            (&|state| state.targets(&targets_file(7), &[1]), Ok(())),
+            (&|state| found(state, b"image").map(drop), Ok(())),
+            (&|state| state.root(&Root::new(2).file(&[1]), &[1], &[1]), Ok(())),
+            (&|state| state.root(&rotating.file(&[1]), &[1], &[1]), Ok(())),
+            (
+                &|state| state.timestamp(&timestamp_file(5, 6), &[1]),
+                Err(TooFewHeldKeys),
+            ),
+        ];
+        for (number, (step, answer)) in steps.into_iter().enumerate() {
+            assert_eq!(step(&mut state), answer, "{number}");
+            assert_eq!(state.cycle(NOW + 9), Err(EarlierStart), "{number}");
+            assert_eq!(state.cycle(NOW + 10), Ok(()), "{number}");
+        }
+        assert_eq!(
+            (state.timestamp, state.time),
+            (None, NOW + 10),
+            "dropped by the last root"
+        );
     }
 }
 
@@ -982,7 +1138,9 @@ mod compared {
     #[test]
     fn nothing_with_a_refusal_of_1_to_8() {
         let names = ["b", "d", "f"];
-        let (mut state, sound) = holding(&names);
+        let (state, sound) = holding(&names);
+        let mut expired = state.clone();
+        assert_eq!(expired.cycle(EXPIRY), Ok(()));
         let signed = shelf::targets(7, EXPIRES, &table(&names));
         let other_spec = signed.replace(r#""spec_version":"1""#, r#""spec_version":"2""#);
         for path in [&b""[..], b"b", b"e", b"g", &[b'x'; 129]] {
@@ -996,9 +1154,7 @@ mod compared {
                 assert_eq!(state.find(&given, path), refused(refusal), "{path:?}");
             }
             assert_eq!(State::blank().find(&sound, path), refused(NotHeld), "{path:?}");
-            state.cycle(1_893_456_000);
-            assert_eq!(state.find(&sound, path), refused(HeldExpired), "{path:?}");
-            state.cycle(NOW);
+            assert_eq!(expired.find(&sound, path), refused(HeldExpired), "{path:?}");
         }
         assert_eq!(state.find(&sound, b"d").compared, 2);
     }

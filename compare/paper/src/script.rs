@@ -396,6 +396,23 @@ mod tests {
         );
     }
 
+    /// A8: "refused with the new number 17 and changes nothing; an equal one passes"
+    #[test]
+    fn a_cycle_with_an_earlier_start_time() {
+        let held = "root=- timestamp=- snapshot=- targets=-";
+        let script = "cycle 5\ncycle 4\ncycle 5\ncycle -9223372036854775808\nstate";
+        assert_eq!(
+            played(script),
+            [
+                format!("cycle 0 {held} time=5"),
+                format!("cycle 17 {held} time=5"),
+                format!("cycle 0 {held} time=5"),
+                format!("cycle 17 {held} time=5"),
+                format!("state {held} time=5"),
+            ]
+        );
+    }
+
     #[test]
     fn lines_that_are_no_call() {
         let script = "# passed over\n\nlook\nlook - -\nsha256\nsha256 - -\nsnapshot - - -\ntargets - - -\nfind - - -\nLook -\nlook 0\nlook 0G\nlook AB\nlook @no/such/file\n\

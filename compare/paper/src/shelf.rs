@@ -7,6 +7,7 @@ use crate::sha256;
 
 /// "2030-01-01T00:00:00Z is 1893456000"
 pub const EXPIRES: &str = "2030-01-01T00:00:00Z";
+pub const EXPIRY: i64 = 1_893_456_000;
 
 /// A start time well before [`EXPIRES`].
 pub const NOW: i64 = 1_700_000_000;

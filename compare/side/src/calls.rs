@@ -4,14 +4,14 @@ use paper::json;
 pub use paper::script::Call;
 use paper::script::Script;
 
-/// The answers that document 01 lists for each call, in the order in which they are tried. Every one of them can occur.
+/// The answers that document 01 and the requests list for each call, in the order in which they are tried. Every one of them can occur.
 pub const ANSWERS: &[(&str, &[u8])] = &[
     ("text", &[0, 1, 2]),
     ("look", &[0, 1, 2, 3]),
     ("entry", &[0, 1, 2, 3, 15]),
     ("key", &[0, 6, 15]),
     ("install", &[0, 1, 2, 3, 16, 4, 5, 10]),
-    ("cycle", &[0]),
+    ("cycle", &[0, 17]),
     ("root", &[0, 1, 2, 3, 16, 4, 5, 6, 9, 10, 11]),
     ("timestamp", &[0, 1, 2, 3, 4, 5, 6, 7, 9, 11, 12, 13, 14]),
     ("snapshot", &[0, 1, 2, 3, 4, 5, 6, 7, 8, 9, 11, 13, 14]),
@@ -263,6 +263,7 @@ mod tests {
         assert_eq!(kind_of("error 7 unknown call"), "error");
         assert!(is_listed("timestamp 12") && !is_listed("timestamp 10") && !is_listed("text bad"));
         assert!(is_listed("root 16") && !is_listed("timestamp 16") && !is_listed("find 5"));
+        assert!(is_listed("cycle 17") && !is_listed("install 17") && !is_listed("cycle 14"));
         assert!(is_listed("date bad") && is_listed("sha256") && is_listed("state") && is_listed("error"));
     }
 }

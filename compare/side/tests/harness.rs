@@ -67,6 +67,7 @@ fn good_answers_pass() {
         "keyids",
         "images",
         "versions",
+        "clock",
         "history, by name",
         "published examples",
     ] {
@@ -396,6 +397,8 @@ fn mistakes_are_noticed_by_lines() {
             "comments-not-counted",
             "number-wraps",
             "time-wraps",
+            "clock-back-accepted",
+            "clock-never-back",
             "further-words-ignored",
             "error-silent",
             "error-forgets-all",
@@ -412,6 +415,8 @@ fn mistakes_are_noticed_by_published_examples() {
             "same-timestamp-taken",
             "same-root-taken",
             "expired-a-second-late",
+            "clock-never-back",
+            "clock-back-accepted",
             "find-digest-unchecked",
             "compared-all",
             "compared-the-smaller",
@@ -846,7 +851,6 @@ fn mistakes_are_noticed_by_histories_by_name() {
             "targets-expiry-forgotten",
             "time-unsigned",
             "time-32-bit",
-            "clock-never-back",
             "stale-snapshot-leaned-on",
             "stale-targets-found",
             "find-with-escapes",
@@ -984,6 +988,97 @@ fn mistakes_are_noticed_by_versions() {
 fn wrong_comparisons_are_noticed_by_versions() {
     let mistakes = miscompared_versions();
     must_notice("versions", &mistakes.iter().map(String::as_str).collect::<Vec<_>>());
+}
+
+/// Mistakes about the start time, all that cycles and installs show.
+const CLOCK: &[&str] = &[
+    "clock-never-back",
+    "clock-back-accepted",
+    "clock-back-by-a-second-accepted",
+    "clock-back-by-a-day-accepted",
+    "clock-equal-refused",
+    "clock-refused-with-5",
+    "clock-refused-with-7",
+    "clock-refused-with-11",
+    "clock-refused-with-14",
+    "clock-refused-sets-it",
+    "clock-refused-sets-it-unsaid",
+    "clock-refused-drops-timestamp",
+    "clock-refused-drops-snapshot",
+    "clock-refused-drops-targets",
+    "clock-refused-is-blank",
+    "clock-raised-by-refused",
+    "clock-lowered-by-refused",
+    "clock-compared-as-u64",
+    "clock-compared-as-i32",
+    "clock-compared-as-u32",
+    "clock-compared-up-to-32-bits",
+    "clock-compared-as-f32",
+    "clock-compared-as-f64",
+    "clock-kept-by-install",
+    "clock-kept-by-refused-install",
+    "clock-kept-of-install-alone",
+    "clock-not-kept-of-install",
+    "clock-back-accepted-unless-expired",
+    "clock-free-when-blank",
+    "clock-from-0-when-blank",
+    "clock-reset-by-root",
+    "clock-reset-by-timestamp",
+];
+
+/// Mistakes about the start time that show after certain other calls, or where two times are very far apart.
+const CLOCK_AMONG_OTHER_CALLS: &[&str] = &[
+    "clock-compared-by-difference",
+    "clock-reset-by-rotation",
+    "clock-reset-by-snapshot",
+    "clock-reset-by-targets",
+    "clock-reset-by-find",
+    "clock-reset-by-key",
+    "clock-reset-by-state",
+    "clock-reset-by-refused-root",
+    "clock-reset-by-refused-timestamp",
+    "clock-reset-by-refused-snapshot",
+    "clock-reset-by-refused-targets",
+    "clock-reset-by-refused-find",
+    "clock-raised-by-root",
+    "clock-raised-by-timestamp",
+];
+
+/// The stand-in keeps the latest start time apart for these mistakes. Without one of them it answers well.
+#[test]
+fn a_latest_start_time_kept_apart_passes() {
+    for group in ["clock", "history, by name", "histories"] {
+        side("clock-kept-well", &["--only", group]).must_pass("1 passed, 0 failed");
+    }
+}
+
+#[test]
+fn mistakes_are_noticed_by_the_clock() {
+    must_notice("clock", CLOCK);
+    must_notice("clock", CLOCK_AMONG_OTHER_CALLS);
+    must_notice(
+        "clock",
+        &[
+            "time-unsigned",
+            "time-32-bit",
+            "expired-a-second-late",
+            "root-sets-time",
+            "refused-install-keeps-state",
+            "refused-install-keeps-time",
+            "cycle-drops-targets",
+        ],
+    );
+}
+
+#[test]
+fn mistakes_about_the_clock_are_noticed_by_histories() {
+    must_notice("histories", CLOCK);
+    must_notice("histories", CLOCK_AMONG_OTHER_CALLS);
+}
+
+#[test]
+fn mistakes_about_the_clock_are_noticed_by_histories_by_name() {
+    must_notice("history, by name", CLOCK);
 }
 
 #[test]
@@ -1137,7 +1232,6 @@ fn mistakes_about_times_and_what_is_current_are_noticed_by_histories() {
         &[
             "time-unsigned",
             "time-32-bit",
-            "clock-never-back",
             "expired-a-second-late",
             "root-expiry-forgotten",
             "timestamp-expiry-forgotten",

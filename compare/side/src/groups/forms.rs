@@ -125,7 +125,8 @@ impl Stage {
         }
     }
 
-    fn set(&mut self, script: &mut Recorder) {
+    /// Plays what a controller has to hold before, unless it is held still.
+    pub fn set(&mut self, script: &mut Recorder) {
         if !std::mem::replace(&mut self.staged, true) {
             for call in &self.prelude {
                 script.open(call.clone());
@@ -135,7 +136,7 @@ impl Stage {
 }
 
 /// What was read of an accepted file, as far as later calls show it. The edited files that expire at another time than
-/// the valid ones expire at 1,709,251,199.
+/// the valid ones expire at 1,709,251,199. The times rise, since the clock does not go back (A8).
 fn show(kind: Kind, script: &mut Recorder, file: &[u8]) {
     script.open(Call::State);
     if kind == Kind::Root {
@@ -265,10 +266,15 @@ pub fn name(kind: Kind) -> &'static str {
 
 /// The install of a root all of whose entries verify.
 pub fn install(file: &Tree) -> Call {
+    install_at(file, NOW)
+}
+
+/// The same at another start time.
+pub fn install_at(file: &Tree, time: i64) -> Call {
     Call::Install {
         file: file.written(),
         row: vec![1; entry_count(file)],
-        time: NOW,
+        time,
     }
 }
 

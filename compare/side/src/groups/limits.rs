@@ -88,6 +88,13 @@ fn tried(script: &mut Recorder, kind: Kind, file: &Tree, answer: u8) {
     }
 }
 
+/// Has a targets file held, if it is accepted, while nothing has expired. On its stage the clock went on, and by A8 it does not
+/// go back; so all is held anew.
+fn hold_anew(script: &mut Recorder, targets: Call, answer: u8) {
+    Stage::new(Kind::Targets).set(script);
+    script.stated(targets, format!("targets {answer}"));
+}
+
 /// What find says of `image` in the acceptable targets file, where it is the second of two.
 fn image_found(answer: u8, length: u64) -> String {
     match answer {
@@ -116,7 +123,9 @@ fn lengths(script: &mut Recorder) {
                 script.stated(call, format!("entry {answer}"));
                 Stage::new(kind).play_bytes(script, bytes.clone(), 2, Some(answer));
                 if kind == Kind::Targets {
-                    script.open(Call::Cycle(0));
+                    let row = vec![1; 2];
+                    let file = bytes.clone();
+                    hold_anew(script, Call::Targets { file, row }, answer);
                     script.stated(forms::find(&bytes, "image"), image_found(answer, u32::MAX.into()));
                 }
             }
@@ -283,7 +292,7 @@ fn counts_of_names(script: &mut Recorder) {
     ] {
         let file = targets_of(numbered(count));
         tried(script, Kind::Targets, &file, answer);
-        script.open(Call::Cycle(0));
+        hold_anew(script, forms::offered(Kind::Targets, &file), answer);
         for number in [0, 1, 127, 254, 255, 256, 257] {
             let path = format!("{number:03}");
             let answer = match answer {
@@ -335,7 +344,7 @@ fn bytes_of_names(script: &mut Recorder) {
             let answer = if (1..=128).contains(&bytes) { ACCEPTED } else { BROKEN };
             let file = targets_of([name.clone()]);
             tried(script, Kind::Targets, &file, answer);
-            script.open(Call::Cycle(0));
+            hold_anew(script, forms::offered(Kind::Targets, &file), answer);
             let said = |accepted: String| if answer == ACCEPTED { accepted } else { refused(answer) };
             let call = forms::find(&file.written(), &name);
             script.stated(call, said(found(1, &digest(b"image"), 1)));
@@ -446,7 +455,7 @@ fn listed_lengths(script: &mut Recorder) {
         let mut file = acceptable(Kind::Targets);
         *file.member(&["signed", "targets", "image", "length"]) = number(length);
         tried(script, Kind::Targets, &file, answer);
-        script.open(Call::Cycle(0));
+        hold_anew(script, forms::offered(Kind::Targets, &file), answer);
         script.stated(forms::find(&file.written(), "image"), image_found(answer, length));
     }
 }

@@ -129,14 +129,26 @@ fn arguments() -> Cases {
             "entry 15",
         ),
         ("key '", "key 6"),
-        ("cycle 0", "cycle 0 root=- timestamp=- snapshot=- targets=- time=0"),
+        // From the lowest start time to the highest; no one goes back (A8).
+        (
+            "cycle -9223372036854775808",
+            "cycle 0 root=- timestamp=- snapshot=- targets=- time=-9223372036854775808",
+        ),
         ("cycle -1", "cycle 0 root=- timestamp=- snapshot=- targets=- time=-1"),
-        ("cycle 9223372036854775807", "cycle 0"),
-        ("cycle -9223372036854775808", "cycle 0"),
+        ("cycle 0", "cycle 0 root=- timestamp=- snapshot=- targets=- time=0"),
+        ("cycle -1", "cycle 17 root=- timestamp=- snapshot=- targets=- time=0"),
+        (
+            "cycle 9223372036854775807",
+            "cycle 0 root=- timestamp=- snapshot=- targets=- time=9223372036854775807",
+        ),
+        (
+            "cycle -9223372036854775808",
+            "cycle 17 root=- timestamp=- snapshot=- targets=- time=9223372036854775807",
+        ),
         ("image 18446744073709551615 - 0 -", "image 5"),
         (
             "state",
-            "state root=- timestamp=- snapshot=- targets=- time=-9223372036854775808",
+            "state root=- timestamp=- snapshot=- targets=- time=9223372036854775807",
         ),
         (
             "sha256 'abc",

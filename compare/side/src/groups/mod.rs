@@ -1,5 +1,6 @@
 //! The groups of inputs, one module for each family of calls, and what makes their inputs.
 
+mod clock;
 pub mod damage;
 mod dates;
 mod digests;
@@ -21,6 +22,7 @@ mod search;
 mod signed;
 mod text;
 mod texts;
+mod told;
 mod versions;
 
 use crate::calls::{Call, Line, Player};
@@ -62,6 +64,7 @@ pub fn all() -> Vec<Group> {
         search::groups(),
         rotation::groups(),
         versions::groups(),
+        clock::groups(),
         named::groups(),
         published::groups(),
         signed::groups(),

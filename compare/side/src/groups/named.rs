@@ -15,6 +15,9 @@ use crate::shelf::sha256::{Digest, digest};
 const NOW: i64 = 1_000_000_000;
 const LATER: i64 = 2_000_000_000;
 
+/// What is held after [`Shelf::complete`].
+const COMPLETE: &str = "root=1 timestamp=3 snapshot=5 targets=7";
+
 /// A version that the office's new tool makes from a date (A7).
 const NOON: u64 = 20_260_101_120_000;
 
@@ -43,7 +46,7 @@ pub fn groups() -> Vec<Group> {
 }
 
 fn by_name() -> Cases {
-    let cases: [fn(&mut Shelf); 22] = [
+    let cases: [fn(&mut Shelf); 23] = [
         two_valid_entries_of_one_key_count_1,
         held_root_4,
         no_next_root_after_the_highest,
@@ -61,6 +64,7 @@ fn by_name() -> Cases {
         dividing_toward_zero_before_1970,
         blank_state,
         new_histories_and_cycles,
+        flat_battery,
         rotations,
         equal_sets_and_thresholds_1_and_2,
         nothing_falls,
@@ -90,19 +94,36 @@ impl Shelf {
 
     /// Installs [`Root::new`] with version 1.
     fn begin(&mut self) {
-        self.install(&Root::new(1, LATER), &[1], &[1], NOW, "0");
+        self.begin_at(NOW);
+    }
+
+    fn begin_at(&mut self, time: i64) {
+        self.install(&Root::new(1, LATER), &[1], &[1], time, "0");
     }
 
     /// Holds timestamp 3, snapshot 5 with `a` at 9, and targets 7.
     fn complete(&mut self) {
-        self.begin();
-        self.timestamp(3, 5, "0");
-        self.snapshot(5, &[("a", 9), ("targets.json", 7)], "0");
-        self.targets(7, "0 root=1 timestamp=3 snapshot=5 targets=7 time=1000000000");
+        self.complete_at(NOW);
     }
 
+    fn complete_at(&mut self, time: i64) {
+        self.begin_at(time);
+        self.timestamp(3, 5, "0");
+        self.snapshot(5, &[("a", 9), ("targets.json", 7)], "0");
+        self.targets(7, &format!("0 {COMPLETE} time={time}"));
+    }
+
+    /// A cycle that is accepted.
     fn cycle(&mut self, time: i64) {
-        self.script.stated(Call::Cycle(time), "cycle 0");
+        self.cycle_with(time, "0");
+    }
+
+    fn cycle_with(&mut self, time: i64, answer: &str) {
+        self.script.stated(Call::Cycle(time), format!("cycle {answer}"));
+    }
+
+    fn state(&mut self, answer: &str) {
+        self.script.stated(Call::State, format!("state {answer}"));
     }
 
     fn root(&mut self, root: &Root, keys: &[usize], held_row: &[u8], own_row: &[u8], answer: &str) {
@@ -302,7 +323,7 @@ fn roots_made_from_dates(shelf: &mut Shelf) {
 
 fn expires_1000(shelf: &mut Shelf) {
     for (start, answer) in [(999, "0"), (1000, "14"), (1001, "14")] {
-        shelf.begin();
+        shelf.begin_at(0);
         shelf.cycle(start);
         shelf.timestamp_with(Header::new(1, 1000), Listed::version(1), &[3], &[1], answer);
     }
@@ -316,14 +337,14 @@ fn expires_1000(shelf: &mut Shelf) {
         (i64::MAX, "7", "6"),
         (i64::MIN, "0", "0"),
     ] {
-        shelf.begin();
+        shelf.begin_at(i64::MIN);
         shelf.timestamp(1, 1, "0");
         shelf.cycle(start);
         let file = snapshot_file(1, 1000, &[("targets.json", 7)]);
         shelf.snapshot_with(file, &[1], snapshot);
         shelf.targets(7, targets);
     }
-    // Every record that is leaned on, one second before it expires and when it does.
+    // Every record that is leaned on, one second before it expires and when it does. It stays expired (A8).
     for expiring in ["root", "timestamp", "snapshot", "targets"] {
         let expires = |record| if record == expiring { 1000 } else { LATER };
         shelf.install(&Root::new(1, expires("root")), &[1], &[1], 0, "0");
@@ -342,8 +363,8 @@ fn expires_1000(shelf: &mut Shelf) {
         shelf.find_with(targets.clone(), b"image", image_found());
         shelf.cycle(1000);
         shelf.find_with(targets.clone(), b"image", refused(7));
-        shelf.cycle(999);
-        shelf.find_with(targets, b"image", image_found());
+        shelf.cycle_with(999, "17 root=1 timestamp=1 snapshot=1 targets=7 time=1000");
+        shelf.find_with(targets, b"image", refused(7));
     }
 }
 
@@ -492,7 +513,7 @@ fn dividing_toward_zero_before_1970(shelf: &mut Shelf) {
         (0, -1, 0),
     ] {
         for (start, answer) in [(passes, "0"), (expired, "14"), (expired + 1, "14")] {
-            shelf.begin();
+            shelf.begin_at(i64::MIN);
             shelf.cycle(start);
             shelf.timestamp_with(Header::new(1, expires), Listed::version(1), &[3], &[1], answer);
         }
@@ -524,10 +545,13 @@ fn blank_state(shelf: &mut Shelf) {
         shelf.find_with(b"{}".to_vec(), b"image", refused(3));
         shelf.key(1, "6");
         shelf.script.stated(Call::Key(b"?".to_vec()), "key 6");
-        shelf.script.stated(Call::State, format!("state {blank} time={time}"));
+        shelf.state(&format!("{blank} time={time}"));
     };
     steps(shelf, i64::MIN);
+    shelf.cycle(-7);
     shelf.cycle(7);
+    steps(shelf, 7);
+    shelf.cycle_with(6, &format!("17 {blank} time=7"));
     steps(shelf, 7);
     shelf.install(
         &Root::new(1, LATER),
@@ -540,15 +564,19 @@ fn blank_state(shelf: &mut Shelf) {
 }
 
 fn new_histories_and_cycles(shelf: &mut Shelf) {
-    let held = "root=1 timestamp=3 snapshot=5 targets=7";
-    shelf.complete();
-    for time in [0, -1, i64::MAX, i64::MIN, NOW] {
-        shelf
-            .script
-            .stated(Call::Cycle(time), format!("cycle 0 {held} time={time}"));
-        shelf.script.stated(Call::State, format!("state {held} time={time}"));
+    shelf.complete_at(i64::MIN);
+    for time in [i64::MIN, -1, 0, NOW] {
+        let held = format!("{COMPLETE} time={time}");
+        shelf.cycle_with(time, &format!("0 {held}"));
+        shelf.state(&held);
+        shelf.find(b"image", image_found());
     }
-    shelf.find(b"image", image_found());
+    let highest = format!("{COMPLETE} time={}", i64::MAX);
+    shelf.cycle_with(i64::MAX, &format!("0 {highest}"));
+    for time in [0, -1, i64::MAX - 1, i64::MIN, NOW] {
+        shelf.cycle_with(time, &format!("17 {highest}"));
+        shelf.state(&highest);
+    }
     shelf.install(
         &Root::new(9, LATER),
         &[1],
@@ -566,6 +594,41 @@ fn new_histories_and_cycles(shelf: &mut Shelf) {
     shelf.script.stated(image(0, image_digest()), "image 0");
     shelf.script.stated(image(1, image_digest()), "image 8");
     shelf.script.stated(image(0, digest(b"another image")), "image 8");
+}
+
+/// A8: "A flat battery put a controller into an earlier year and it found an expired list fresh."
+fn flat_battery(shelf: &mut Shelf) {
+    const YEAR: i64 = 365 * 86_400;
+    let held = |number: u8| format!("{number} {COMPLETE} time={LATER}");
+    shelf.complete();
+    shelf.find(b"image", image_found());
+    shelf.cycle(LATER);
+    shelf.find(b"image", refused(7));
+    for earlier in [LATER - YEAR, NOW, 0, LATER - 1] {
+        shelf.cycle_with(earlier, &held(17));
+        shelf.find(b"image", refused(7));
+        shelf.timestamp(4, 5, &held(7));
+        shelf.targets(7, &held(7));
+    }
+    shelf.cycle_with(LATER, &held(0));
+
+    // A root that has not expired lets a timestamp be offered; one that has expired stays so too.
+    let held =
+        |number: u8, timestamp: u64| format!("{number} root=2 timestamp={timestamp} snapshot=5 targets=7 time={LATER}");
+    let timestamp = |shelf: &mut Shelf, expires: i64, answer: &str| {
+        shelf.timestamp_with(Header::new(4, expires), Listed::version(5), &[3], &[1], answer);
+    };
+    shelf.root(&Root::new(2, LATER + YEAR), &[1], &[1], &[1], &held(0, 3));
+    shelf.cycle_with(NOW, &held(17, 3));
+    timestamp(shelf, LATER, &held(14, 3));
+    timestamp(shelf, LATER + YEAR, &held(0, 4));
+    shelf.cycle_with(NOW, &held(17, 4));
+    shelf.find(b"image", refused(7));
+
+    // "Install starts the record anew.": the same list is fresh again, and the clock goes back no further.
+    shelf.complete();
+    shelf.find(b"image", image_found());
+    shelf.cycle_with(NOW - 1, &format!("17 {COMPLETE} time={NOW}"));
 }
 
 fn rotations(shelf: &mut Shelf) {

@@ -314,10 +314,14 @@ fn refusals(script: &mut Recorder) {
         refused_whole(script, &other.written(), number);
     }
     refused_whole(script, &files::padded(&sound, LONGEST, true), 8);
-    // All records that are leaned on expire then.
+    script.stated(Call::Cycle(LATER - 1), "cycle 0");
+    search(script, &paths_about_three());
+    // All records that are leaned on expire then, and the clock does not go back (A8).
     script.stated(Call::Cycle(LATER), "cycle 0");
     refused_whole(script, &bytes, 7);
-    script.stated(Call::Cycle(LATER - 1), "cycle 0");
+    script.stated(Call::Cycle(LATER - 1), "cycle 17");
+    refused_whole(script, &bytes, 7);
+    begin(script);
     search(script, &paths_about_three());
     // A newer timestamp: the snapshot, and so the targets file, is not current.
     let newer = forms::timestamp(2, Listed::version(2));

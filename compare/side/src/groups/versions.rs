@@ -5,9 +5,9 @@
 use std::cmp::Ordering;
 use std::fmt::Display;
 
-use super::Recorder;
 use super::finds::{found, refused};
 use super::forms::{self, Kind};
+use super::told::{ACCEPTED, Told};
 use crate::compare::{Cases, Group};
 use crate::shelf::files::{self, HIGHEST_VERSION, Header, Listed, Root, Snapshot, Targets};
 use crate::shelf::sha256::digest;
@@ -60,7 +60,6 @@ const OTHERS: [(&str, u8); 18] = [
     ("2e13", NOT_CANONICAL),
 ];
 
-const ACCEPTED: u8 = 0;
 const NOT_CANONICAL: u8 = 2;
 const BROKEN: u8 = 3;
 /// "not held, or not current"
@@ -122,7 +121,7 @@ fn versions() -> Cases {
     Box::new(parts.into_iter().flat_map(|part| {
         let mut shelf = Shelf::default();
         part(&mut shelf);
-        shelf.script.take()
+        shelf.told.script().take()
     }))
 }
 
@@ -307,17 +306,17 @@ fn lengths(shelf: &mut Shelf) {
         let mut file = targets_file(7);
         *file.member(&["signed", "targets", "image", "length"]) = number(length);
         shelf.find_in(&file, or_broken(DIFFERS));
-        shelf.offer(Kind::Targets, &file, 7, or_broken(ACCEPTED));
+        shelf.told.offer(Kind::Targets, &file, 7, or_broken(ACCEPTED));
         for name in NAMES {
             let mut file = snapshot_file(5, [9, 7, 9]);
             let listed = file.member(&["signed", "meta", name]);
             listed.insert("length", number(length));
-            shelf.offer(Kind::Snapshot, &file, 5, or_broken(ACCEPTED));
+            shelf.told.offer(Kind::Snapshot, &file, 5, or_broken(ACCEPTED));
         }
         let mut file = timestamp_file(3, 5);
         let listed = file.member(&["signed", "meta", "snapshot.json"]);
         listed.insert("length", number(length));
-        shelf.offer(Kind::Timestamp, &file, 3, or_broken(NO_NEWS));
+        shelf.told.offer(Kind::Timestamp, &file, 3, or_broken(NO_NEWS));
     }
 }
 
@@ -361,40 +360,33 @@ fn rising_pairs() -> impl Iterator<Item = (u64, u64)> {
     VERSIONS.into_iter().enumerate().flat_map(above)
 }
 
-/// A script, and what is held after it: the versions of root, timestamp, snapshot and targets as they were written, and the
-/// start time.
+/// Files of which only the versions matter, offered one after the other.
 #[derive(Default)]
 struct Shelf {
-    script: Recorder,
-    held: [Option<String>; 4],
-    time: i64,
+    told: Told,
 }
 
 impl Shelf {
-    /// Installs a root. A refused one returns the blank state.
     fn install(&mut self, version: impl Display, answer: u8) {
-        (self.held, self.time) = match answer {
-            ACCEPTED => ([Some(version.to_string()), None, None, None], NOW),
-            _ => (Default::default(), i64::MIN),
-        };
-        let stated = format!("install {answer} {}", self.words());
-        self.script.stated(forms::install(&root_file(version)), stated);
+        self.told.install(&root_file(&version), version, NOW, answer);
     }
 
     fn root(&mut self, version: impl Display, answer: u8) {
-        self.offer(Kind::Root, &root_file(&version), version, answer);
+        self.told.offer(Kind::Root, &root_file(&version), version, answer);
     }
 
     fn timestamp(&mut self, version: impl Display, snapshot: impl Display, answer: u8) {
-        self.offer(Kind::Timestamp, &timestamp_file(&version, snapshot), version, answer);
+        self.told
+            .offer(Kind::Timestamp, &timestamp_file(&version, snapshot), version, answer);
     }
 
     fn snapshot(&mut self, version: impl Display, listed: [impl Display; 3], answer: u8) {
-        self.offer(Kind::Snapshot, &snapshot_file(&version, listed), version, answer);
+        self.told
+            .offer(Kind::Snapshot, &snapshot_file(&version, listed), version, answer);
     }
 
     fn targets(&mut self, version: impl Display, answer: u8) {
-        self.offer(Kind::Targets, &targets_file(&version), version, answer);
+        self.told.offer(Kind::Targets, &targets_file(&version), version, answer);
     }
 
     /// Finds the image in the targets file of this version.
@@ -407,16 +399,7 @@ impl Shelf {
             ACCEPTED => found(8, &digest(b"an image"), 1),
             _ => refused(answer),
         };
-        self.script.stated(forms::find(&file.written(), "image"), stated);
-    }
-
-    /// Offers a file of this version, and states the whole answer.
-    fn offer(&mut self, kind: Kind, file: &Tree, version: impl Display, answer: u8) {
-        if answer == ACCEPTED {
-            self.held[kind as usize] = Some(version.to_string());
-        }
-        let stated = format!("{} {answer} {}", forms::name(kind), self.words());
-        self.script.stated(forms::offered(kind, file), stated);
+        self.told.script().stated(forms::find(&file.written(), "image"), stated);
     }
 
     /// A file of each role becomes trusted.
@@ -426,13 +409,6 @@ impl Shelf {
         self.snapshot(snapshot, [9, targets, 9], ACCEPTED);
         self.targets(targets, ACCEPTED);
         self.find(targets, ACCEPTED);
-    }
-
-    /// What every answer of a step says of the state.
-    fn words(&self) -> String {
-        let [root, timestamp, snapshot, targets] = self.held.each_ref().map(|held| held.as_deref().unwrap_or("-"));
-        let time = self.time;
-        format!("root={root} timestamp={timestamp} snapshot={snapshot} targets={targets} time={time}")
     }
 }
 

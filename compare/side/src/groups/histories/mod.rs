@@ -1,5 +1,6 @@
 //! Whole histories: an honest publisher's files, and between them everything that an attacker, a careless caller or a
-//! wrong clock can do. What the publisher's own calls answer is known by the way they are made.
+//! wrong clock can do. What the publisher's own calls answer is known by the way they are made, and what a cycle answers by
+//! the start times before it.
 
 mod faults;
 mod offers;
@@ -8,6 +9,7 @@ mod signing;
 
 use std::collections::BTreeSet;
 
+use super::told::{Clock, answer};
 use super::{Recorder, texts};
 use crate::calls::Call;
 use crate::compare::{Case, Cases, Group};
@@ -82,6 +84,8 @@ pub fn calls(seed: u64, number: usize) -> Vec<Call> {
 pub struct History {
     random: Random,
     script: Recorder,
+    /// The start time in force, known by the calls that were made.
+    clock: Clock,
     publisher: Publisher,
     /// Calls that offered a file, to be made again.
     offered: Vec<Call>,
@@ -98,6 +102,7 @@ impl History {
             publisher: Publisher::new(&mut random),
             random,
             script: Recorder::default(),
+            clock: Clock::default(),
             offered: Vec::new(),
             keyids: BTreeSet::new(),
             targets: Vec::new(),
@@ -121,7 +126,7 @@ impl History {
 
     /// The start time in force.
     fn time(&self) -> i64 {
-        self.script.state().time
+        self.clock.time()
     }
 
     /// The version held of a file's role, 0 if none is.
@@ -175,10 +180,20 @@ impl History {
             Call::Targets { file, .. } => Some(file.clone()),
             _ => None,
         };
+        let started = match &call {
+            Call::Install { time, .. } => Some(*time),
+            _ => None,
+        };
         let answer = match stated {
             Some(stated) => self.script.stated(call, stated),
             None => self.script.open(call),
         };
+        if let Some(time) = started {
+            self.clock = match answer.starts_with("install 0 ") {
+                true => Clock::starting(time),
+                false => Clock::default(),
+            };
+        }
         if answer.starts_with("targets 0 ") {
             self.targets.extend(targets);
         }
@@ -225,6 +240,7 @@ impl History {
                 }
                 1 => self.find(),
                 2 => self.ask_key(),
+                3 if self.random.one_in(2) => self.cycle_back(),
                 3 => {
                     let time = self.publisher.ordinary_time(&mut self.random);
                     self.cycle(time);
@@ -246,11 +262,23 @@ impl History {
         self.offer(&Offer::new(plan, signing), None);
     }
 
+    /// A new cycle, whose answer follows from the start time in force. It changes no record.
     fn cycle(&mut self, time: i64) {
-        self.script.open(Call::Cycle(time));
+        let number = self.clock.cycle(time);
+        let held = publisher::versions(self.script.state());
+        let stated = answer("cycle", number, &held, self.time());
+        self.script.stated(Call::Cycle(time), stated);
     }
 
-    /// A clock at an end of its range, or about the expiry of something held; and calls while it is so.
+    /// A cycle that is refused, unless the clock is at its lowest.
+    fn cycle_back(&mut self) {
+        let back = self
+            .random
+            .pick(&[1, 1, 2, 60, 86_400, 365 * 86_400, 1 << 32, i64::MAX]);
+        self.cycle(self.time().saturating_sub(back));
+    }
+
+    /// A clock that went back, is at an end of its range, or about the expiry of something held; and calls while it is so.
     fn wrong_clock(&mut self) {
         let state = self.script.state();
         let expiries = [
@@ -272,8 +300,13 @@ impl History {
         for expires in expiries.into_iter().flatten() {
             times.extend([expires - 1, expires, expires - 1, expires, expires + 1]);
         }
-        let time = self.random.pick(&times);
-        self.cycle(time);
+        match self.random.one_in(3) {
+            true => self.cycle_back(),
+            false => {
+                let time = self.random.pick(&times);
+                self.cycle(time);
+            }
+        }
         for _ in 0..self.random.between(1, 3) {
             match self.random.below(5) {
                 0 => self.make_again(),
@@ -341,6 +374,9 @@ impl History {
             for _ in 0..self.random.pick(&[0, 0, 1, 1, 2]) {
                 self.offer_spoilt(offer);
             }
+            if self.random.one_in(8) {
+                self.cycle_back();
+            }
             honest &= *self.script.state() == before;
             let stated = publisher::step_answer(&before, &offer.plan);
             self.offer(offer, stated.filter(|_| honest));
@@ -350,11 +386,15 @@ impl History {
         }
     }
 
-    /// An ordinary start time, and a root that has not expired, so that the publisher's files can be accepted.
+    /// An ordinary start time, and a root that has not expired, so that the publisher's files can be accepted. The clock does
+    /// not go back (A8): where it is ahead the publisher follows it, and beyond the last date only an install helps.
     fn set_things_right(&mut self) {
-        let time = self.publisher.ordinary_time(&mut self.random);
+        if !self.publisher.follow(self.time()) {
+            return self.beginning();
+        }
         let is_ordinary = self.publisher.is_ordinary(self.time());
         if !is_ordinary || self.random.one_in(3) {
+            let time = self.publisher.later_time(self.time(), &mut self.random);
             self.cycle(time);
         }
         let Some(held) = self.own_root() else {
@@ -363,7 +403,7 @@ impl History {
         let expires = held.header.expires;
         self.publisher.set_root(held);
         if expires <= self.time() || self.publisher.is_stuck(self.script.state()) {
-            let root = self.publisher.recovering_root(&mut self.random);
+            let root = self.publisher.recovering_root(self.script.state(), &mut self.random);
             if root.header.version > HIGHEST_VERSION {
                 return self.beginning();
             }

@@ -9,6 +9,7 @@ use paper::state::State;
 
 use super::offers::{Offer, Plan};
 use super::signing::{Signing, sign};
+use crate::groups::told::{ACCEPTED, answer};
 use crate::random::Random;
 use crate::shelf::dates;
 use crate::shelf::files::{
@@ -84,6 +85,8 @@ enum Numbering {
 /// The publisher of one history.
 pub struct Publisher {
     root: Root,
+    /// Where the ordinary start times begin after an install, and where they begin now.
+    first_base: i64,
     base: i64,
     numbering: Numbering,
 }
@@ -91,9 +94,11 @@ pub struct Publisher {
 impl Publisher {
     /// A publisher with a root.
     pub fn new(random: &mut Random) -> Publisher {
+        let base = random.pick(BASES);
         Publisher {
             root: Root::new(1, 0),
-            base: random.pick(BASES),
+            first_base: base,
+            base,
             numbering: match random.below(6) {
                 0 => Numbering::Highest,
                 1 | 2 => Numbering::Dates,
@@ -102,8 +107,9 @@ impl Publisher {
         }
     }
 
-    /// Makes a first root.
+    /// Makes a first root. "Install starts the record anew" (A8), and so the clock may be earlier than it was.
     pub fn begin(&mut self, random: &mut Random) {
+        self.base = self.first_base;
         let table = random.pick(&[1, 3, 5, 6, 8, 8, MOST_KEYS]);
         let mut numbers: Vec<usize> = all_keys().collect();
         random.shuffle(&mut numbers);
@@ -168,12 +174,14 @@ impl Publisher {
         root
     }
 
-    /// A root that sets things right: it has not expired, and other keys sign timestamps.
-    pub fn recovering_root(&mut self, random: &mut Random) -> Root {
+    /// A root that sets things right: it has not expired, and other keys sign timestamps if none can follow the held one.
+    pub fn recovering_root(&mut self, state: &State, random: &mut Random) -> Root {
         let mut root = self.root.clone();
         root.header = Header::new(root.header.version + 1, self.base + 2 * SPAN);
-        let rotated: Vec<usize> = all_keys().filter(|key| !root.timestamp.keys.contains(key)).collect();
-        root.timestamp = Role::new([random.pick(&rotated)], 1);
+        if self.is_stuck(state) {
+            let rotated: Vec<usize> = all_keys().filter(|key| !root.timestamp.keys.contains(key)).collect();
+            root.timestamp = Role::new([random.pick(&rotated)], 1);
+        }
         self.fill_table(&mut root, random);
         root
     }
@@ -230,6 +238,20 @@ impl Publisher {
     /// One of the ordinary start times.
     pub fn ordinary_time(&self, random: &mut Random) -> i64 {
         self.base + random.below(SPAN as usize) as i64
+    }
+
+    /// An ordinary start time that is not earlier than this one, which is not ahead of them.
+    pub fn later_time(&self, time: i64, random: &mut Random) -> i64 {
+        let step = random.pick(&[0, 0, 1, 60, 3_600, 86_400]);
+        (time.max(self.base) + step).min(self.base + SPAN - 1)
+    }
+
+    /// Has the ordinary start times begin at this one if it is ahead of them. False if there are not dates enough after it.
+    pub fn follow(&mut self, time: i64) -> bool {
+        if time >= self.base + SPAN && time <= dates::LAST - 4 * SPAN {
+            self.base = time;
+        }
+        time < self.base + SPAN
     }
 
     /// Whether it is an ordinary start time.
@@ -530,7 +552,7 @@ pub fn root_answer(state: &State, held: &Root, new: &Root) -> Option<String> {
         kept(snapshot, drops_all),
         kept(targets, drops_targets),
     ];
-    Some(answer("root", versions, state.time))
+    Some(answer("root", ACCEPTED, &versions, state.time))
 }
 
 /// What an honest step answers.
@@ -552,20 +574,15 @@ pub fn step_answer(state: &State, plan: &Plan) -> Option<String> {
         }
         Plan::First(..) | Plan::Root(_) => return None,
     };
-    Some(answer(name, versions, state.time))
+    Some(answer(name, ACCEPTED, &versions, state.time))
 }
 
-fn versions(state: &State) -> [Option<u64>; 4] {
+/// The versions held.
+pub fn versions(state: &State) -> [Option<u64>; 4] {
     [
         state.root.as_ref().map(|held| held.header.version),
         state.timestamp.as_ref().map(|held| held.header.version),
         state.snapshot.as_ref().map(|held| held.header.version),
         state.targets.as_ref().map(|held| held.header.version),
     ]
-}
-
-fn answer(name: &str, versions: [Option<u64>; 4], time: i64) -> String {
-    let [root, timestamp, snapshot, targets] =
-        versions.map(|version| version.map_or("-".to_string(), |version| version.to_string()));
-    format!("{name} 0 root={root} timestamp={timestamp} snapshot={snapshot} targets={targets} time={time}")
 }

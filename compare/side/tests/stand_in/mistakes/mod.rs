@@ -1,6 +1,7 @@
 //! Mistakes that an implementation of document 01 might make. Each is made by answering for other bytes or another state
 //! than those given, or by refusing where there is nothing to refuse. The comparison has to notice every one of them.
 
+mod clock;
 mod forms;
 mod keyids;
 mod lines;
@@ -21,6 +22,7 @@ pub fn answer(mistake: &str, script: &mut Script, call: &Call) -> Option<String>
         .or_else(|| search::answer(mistake, script, call))
         .or_else(|| keyids::answer(mistake, script, call))
         .or_else(|| versions::answer(mistake, script, call))
+        .or_else(|| clock::answer(mistake, script, call))
         .or_else(|| steps::answer(mistake, script, call))
         .or_else(|| forms::answer(mistake, script, call))
 }

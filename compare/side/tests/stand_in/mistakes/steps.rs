@@ -109,7 +109,6 @@ fn other_call(mistake: &str, state: &State, call: &Call) -> Option<Call> {
         ("time-32-bit", Call::Cycle(time) | Call::Install { time, .. }) => {
             *time = (*time).clamp(i64::from(i32::MIN), i64::from(i32::MAX));
         }
-        ("clock-never-back", Call::Cycle(time)) => *time = (*time).max(state.time),
         _ => return None,
     }
     (other != *call).then_some(other)
