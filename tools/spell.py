@@ -5,7 +5,7 @@ usage: spell.py [--table] [FOLDER]        --table prints old and new names and w
 
 - A word in lower camel case becomes snake case, in .antt files and in the clauses of .rt files: `keyidOf` is `keyid_of`.
 - A lemma's dash stays where it joins two names and is an underscore elsewhere: `filter-different` stays, `is-in` is `is_in`.
-- Where two names would fall together, the lemma keeps its dashes.
+- Where two names would fall together, the lemma keeps its dashes, or has `_lem` after its name.
 Types, modules, strings, comments' quotations and the functions of src/ keep their names.
 """
 import os
@@ -81,6 +81,11 @@ def main():
         for w in re.findall(WORD, t):
             if re.match(r"[a-z]", w) and re.search(r"[a-z0-9][A-Z]", w) and w not in foreign:
                 camel[w] = None
+    for p, t in texts.items():
+        if p.endswith(".rt"):
+            for w in re.findall(WORD, code_of(t, "//")):
+                if re.match(r"[a-z]", w) and re.search(r"[a-z0-9][A-Z]", w):
+                    camel[w] = None
     for w in camel:
         for p in declared.get(snake(w), set()):
             meets.setdefault(snake(w), set()).add(re.sub(r"^.*/", "", p)[: -len(".antt")])
@@ -174,6 +179,24 @@ def main():
             changed += 1
     print(f"{len(table)} names, {changed} files")
     print("\n".join(said))
+    rename_crate("json", "canonical_json")
+
+
+def rename_crate(old, new):
+    """The kit has a library of the old name."""
+    if not os.path.isdir(os.path.join(TOP, "crates", old)):
+        return
+    for p in files((".antt", ".rt")):
+        t = read(p)
+        n = re.sub(rf"\b{old}::", f"{new}::", t.replace(f"Rattle.{old}.", f"Rattle.{new}."))
+        if n != t:
+            with open(p, "w", encoding="utf-8") as f:
+                f.write(n)
+    listed = os.path.join(TOP, "crates.txt")
+    t = read(listed)
+    with open(listed, "w", encoding="utf-8") as f:
+        f.write("".join(l if l.startswith("#") else re.sub(rf"\b{old}\b", new, l) for l in t.splitlines(True)))
+    os.rename(os.path.join(TOP, "crates", old), os.path.join(TOP, "crates", new))
 
 
 main()

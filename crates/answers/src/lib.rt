@@ -1,4 +1,6 @@
 // What the controller says (01's table), as an enum. specs/Number.antt gives each its number.
+#![tactic(auto)]
+
 ghost use Rattle.std.specs.Prelude.{◌≡◌, min};
 ghost use Rattle.answers.specs.Number.{number_of, highest};
 

@@ -1,4 +1,6 @@
 // The arguments of a line. The bytes of all of them stand one behind another in one buffer.
+#![tactic(auto)]
+
 ghost use Rattle.std.specs.Prelude.{◌≤◌, length};
 
 use date::Time;

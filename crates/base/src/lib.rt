@@ -1,4 +1,6 @@
 // Byte strings: equality, windows by index, lower-case hex.
+#![tactic(auto)]
+
 ghost use Rattle.std.specs.Prelude.{◌≡◌, ◌+◌, ◌*◌, ◌<◌, length, take, drop, replicate};
 ghost use Rattle.base.specs.Bytes.{same as same_of};
 ghost use Rattle.base.specs.Window.{byte_at, window};

@@ -1,8 +1,10 @@
 // Canonical JSON text (01, "Text"): is a text canonical, and where does a value in it end.
+#![tactic(auto)]
+
 ghost use Rattle.std.specs.Prelude.{◌≡◌, true, ◌↔◌, ◌+◌, ◌≤◌, ◌<◌, length, drop, get_or};
 ghost use Rattle.base.specs.Bytes.{less};
 ghost use Rattle.canonical_json.specs.Lead.{lead_of};
-ghost use Rattle.canonical_json.specs.Read.{end_of, chars, esc, read_str, kind_of, word as word_of, number as number_of, array as array_of, object as object_of, member as memberOf, rises, read, raw};
+ghost use Rattle.canonical_json.specs.Read.{end_of, chars, esc, read_str, kind_of, word as word_of, number as number_of, array as array_of, object as object_of, member as member_of, rises, read, raw};
 ghost use Rattle.canonical_json.specs.Strings.{Skips, plain, PlainRun, shared, SharedRun};
 ghost use Rattle.canonical_json.specs.Names.{CharRead, last_of};
 ghost use Rattle.canonical_json.specs.Json.{Canonical, max_depth};

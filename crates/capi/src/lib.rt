@@ -1,11 +1,13 @@
 // The calls of `tuf` for C and Rust: each exported function has the contract of the call that it wraps. An answer is 01's number; a state
 // goes in and comes back by value; bytes are lent as a pointer and a length. include/gronwythal.h is the other side of this file.
+#![tactic(auto)]
+
 ghost use Rattle.std.specs.Prelude.{◌≡◌, true, ◌↔◌};
 ghost use Rattle.canonical_json.specs.Json.{Canonical, max_depth};
 ghost use Rattle.sha256.specs.Message.{digest_of};
-ghost use Rattle.rules.specs.State.{blank as blankState, new_cycle, new_root, new_timestamp, new_snapshot, new_targets};
+ghost use Rattle.rules.specs.State.{blank as blank_state, new_cycle, new_root, new_timestamp, new_snapshot, new_targets};
 ghost use Rattle.rules.specs.Steps.{Began};
-ghost use Rattle.rules.specs.Asked.{image_answer, look as lookInto, entry_at};
+ghost use Rattle.rules.specs.Asked.{image_answer, look as look_into, entry_at};
 ghost use Rattle.records.specs.View.{view_id};
 ghost use Rattle.state.specs.Told.{Tells};
 ghost use Rattle.tuf.specs.View.{view};
@@ -74,7 +76,7 @@ fn numbered(step: tuf::Step) -> Step
 
 #[unsafe(no_mangle)]
 pub extern "C" fn gronwythal_blank() -> State
-    ensures { view result ≡ blankState }
+    ensures { view result ≡ blank_state }
 {
     State::blank()
 }
@@ -180,7 +182,7 @@ pub extern "C" fn gronwythal_sha256(bytes: &[u8]) -> Id
 
 #[unsafe(no_mangle)]
 pub extern "C" fn gronwythal_look(file: &[u8]) -> Looked
-    ensures { view_look result ≡ lookInto file.now }
+    ensures { view_look result ≡ look_into file.now }
 {
     let looked = tuf::look(file);
     let a = looked.answer;

@@ -1,7 +1,9 @@
 // Dates: the text `YYYY-MM-DDTHH:MM:SSZ` as a count of seconds from 1970-01-01T00:00:00Z, below zero before.
+#![tactic(auto)]
+
 ghost use Rattle.std.specs.Prelude.{◌≡◌, cond, ◌+◌, ◌-◌, ◌≤◌, ◌<◌, pos, ◌-ℤ◌};
 ghost use Rattle.date.specs.Calendar.{form, has_form, two_digits, is_leap, month_days, years_before, first_months, time_of, civil_time, date_of};
-ghost use Rattle.date.specs.Calendar.{fits as fitsForm, expired as expiredAt, earlier as earlierThan};
+ghost use Rattle.date.specs.Calendar.{fits as fits_form, expired as expired_at, earlier as earlier_than};
 ghost use Rattle.date.specs.Parts.{DigitsAt, Civil, floor_div};
 ghost use Rattle.date.specs.View.{view_date};
 
@@ -25,14 +27,14 @@ pub enum Date {
 impl Time {
     // Whether a file that expires at this time is expired at `start`.
     pub fn expired(self, start: Time) -> bool
-        ensures { result ≡ expiredAt self.seconds start.seconds }
+        ensures { result ≡ expired_at self.seconds start.seconds }
     {
         self.seconds <= start.seconds
     }
 
     // Whether this start time is earlier than the latest one; an equal one is not.
     pub fn earlier(self, latest: Time) -> bool
-        ensures { result ≡ earlierThan self.seconds latest.seconds }
+        ensures { result ≡ earlier_than self.seconds latest.seconds }
     {
         self.seconds < latest.seconds
     }
@@ -46,7 +48,7 @@ fn wide(b: u8) -> u64
 
 // Whether b may stand where the form has f: a digit for a 0, and for any other byte that byte.
 fn fits(f: u8, b: u8) -> bool
-    ensures { result ≡ fitsForm f b }
+    ensures { result ≡ fits_form f b }
 {
     if f != b'0' {
         return b == f;

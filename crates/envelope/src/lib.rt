@@ -1,4 +1,6 @@
 // The envelope of a file (01, "Forms"): signature entries, the signed part by its place, and what every role's file says.
+#![tactic(auto)]
+
 ghost use Rattle.std.specs.Prelude.{◌≡◌, true, false, drop, take};
 ghost use Rattle.std.proofs.Math.Option.{none};
 ghost use Rattle.base.specs.Bytes.{bytes, same};
@@ -12,8 +14,8 @@ ghost use Rattle.envelope.specs.Header.{ReadsEntry, keyids, view_entries_at, spe
 ghost use Rattle.forms.specs.Member.{TakesMust};
 ghost use Rattle.envelope.specs.Open.{object, Opens, IsShut};
 
-use date::{Date, Time};
 use canonical_json::Char;
+use date::{Date, Time};
 use lookup::{Element, Extent, Found, Member, Number};
 use records::{Entries, Id};
 

@@ -1,5 +1,7 @@
 // Leaves and small forms (01, "Forms"), read at a place of a canonical text: hex, numbers, words, dates, what is said of a listed file.
 // A contract `Takes s at F o` says: where a value stands at the place, o is what the form F says of it.
+#![tactic(auto)]
+
 ghost use Rattle.std.specs.Prelude.{◌≡◌, drop};
 ghost use Rattle.std.proofs.Math.Option.{none};
 ghost use Rattle.canonical_json.specs.Read.{raw};
@@ -10,8 +12,8 @@ ghost use Rattle.lookup.specs.Leaves.{view_number};
 ghost use Rattle.date.specs.Calendar.{date_of};
 ghost use Rattle.date.specs.View.{view_date};
 ghost use Rattle.rules.specs.Limits.{key_size, signature_size, max_version};
-ghost use Rattle.rules.specs.Take.{word, unhex, hex, date as dateForm};
-ghost use Rattle.rules.specs.Forms.{sha256, listed as listedForm};
+ghost use Rattle.rules.specs.Take.{word, unhex, hex, date as date_form};
+ghost use Rattle.rules.specs.Forms.{sha256, listed as listed_form};
 ghost use Rattle.forms.specs.Member.{TakesMust, TakesMay};
 ghost use Rattle.forms.specs.View.{Fills, digits_at, undone_at, HexAt, view_id_at, view_sig, view_may_id, view_may_number, view_listed_at};
 

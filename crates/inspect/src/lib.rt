@@ -1,9 +1,11 @@
 // Looking into a file (01, "Text"): its signed part and its signature entries. Only the envelope is asked for, refusals 1 to 3.
+#![tactic(auto)]
+
 ghost use Rattle.std.specs.Prelude.{◌≡◌, ◌+◌};
 ghost use Rattle.base.specs.Bytes.{bytes};
 ghost use Rattle.lookup.specs.Place.{Finds};
 ghost use Rattle.rules.specs.Take.{must};
-ghost use Rattle.rules.specs.Asked.{look as lookInto, signed_part, no_entry, entry_at};
+ghost use Rattle.rules.specs.Asked.{look as look_into, signed_part, no_entry, entry_at};
 ghost use Rattle.answers.specs.Number.{number_of};
 ghost use Rattle.inspect.specs.View.{view_look, no_look, view_entry_read};
 ghost use Rattle.inspect.specs.Elements.{element_at};
@@ -36,7 +38,7 @@ fn no_look(answer: Answer) -> Looked
 }
 
 pub fn look(file: &[u8]) -> Looked
-    ensures { view_look result ≡ lookInto file.now }
+    ensures { view_look result ≡ look_into file.now }
 {
     let opened = envelope::open_envelope(file);
     if opened.answer != 0 {
@@ -64,7 +66,7 @@ pub fn look(file: &[u8]) -> Looked
 // The signed part itself, in the caller's own bytes: the same memory, from its place on. Empty where the look is refused.
 pub fn signed_part(file: &[u8]) -> &[u8]
     ensures result_value { result.now ≡ signed_part file.now }
-    ensures ref_ptr_value { (result.ref_ptr.0 ≡ file.entry.ref_ptr.0) × (result.ref_ptr.1 ≡ (lookInto file.now).start + file.entry.ref_ptr.1) }
+    ensures ref_ptr_value { (result.ref_ptr.0 ≡ file.entry.ref_ptr.0) × (result.ref_ptr.1 ≡ (look_into file.now).start + file.entry.ref_ptr.1) }
 {
     let looked = look(file);
     let start = looked.start;

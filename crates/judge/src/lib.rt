@@ -1,4 +1,6 @@
 // The judging of records that were already read, against the trusted state: 01's table from 5 on, the first refusal that holds.
+#![tactic(auto)]
+
 ghost use Rattle.std.specs.Prelude.{◌≡◌, List};
 ghost use Rattle.base.specs.Bytes.{Bytes};
 ghost use Rattle.rules.specs.Records.{File, Image};

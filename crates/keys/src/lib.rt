@@ -1,9 +1,11 @@
 // Keys by keyid: which keys of a role signed, whether a role's keys were rotated, a key's public value.
+#![tactic(auto)]
+
 ghost use Rattle.std.specs.Prelude.{◌≡◌, not, ◌&&◌, ◌||◌, ℕ, ◌<◌, min, eqb, ltb};
 ghost use Rattle.base.specs.Bytes.{same};
 ghost use Rattle.rules.specs.Forms.{is_in};
 ghost use Rattle.rules.specs.Conditions.{any, bad_row, signed, too_few, key_of};
-ghost use Rattle.rules.specs.Conditions.{within as withinOf, other_keys, rotated as rotatedOf};
+ghost use Rattle.rules.specs.Conditions.{within as within_of, other_keys, rotated as rotated_of};
 ghost use Rattle.records.specs.View.{view_id, view_entries, view_table, view_role, has};
 ghost use Rattle.keys.specs.Signers.{Marks, signs_at, has_id, Asked};
 
@@ -175,7 +177,7 @@ fn is_missing(role: Role, i: usize, keyid: Id, table: KeyTable, other: Role) -> 
 }
 
 fn within(a: KeyTable, role: Role, b: KeyTable, other: Role) -> bool
-    ensures { result ≡ withinOf (view_role a role).keyids (view_role b other).keyids }
+    ensures { result ≡ within_of (view_role a role).keyids (view_role b other).keyids }
 {
     let n = records::at_most(a.count, records::MAX_KEYS);
     let mut i = 0;
@@ -205,7 +207,7 @@ fn other_threshold(old: Role, new: Role) -> bool
 }
 
 pub fn rotated(a: KeyTable, old: Role, b: KeyTable, new: Role) -> bool
-    ensures { result ≡ rotatedOf (view_role a old) (view_role b new) }
+    ensures { result ≡ rotated_of (view_role a old) (view_role b new) }
 {
     if other_keys(a, old, b, new) {
         return true;

@@ -1,8 +1,10 @@
 // Probes for the layout test (bindings/layout): each gives two equal values of an exported struct, one behind another, with the given
 // fields. The test gives each field bytes that no other has: where they stand is the field's offset, and from there to where they stand
 // again is the size of the struct. A digest is one field, so its two values have marks of their own. No part of the product's archive.
+#![tactic(auto)]
+
 ghost use Rattle.std.specs.Prelude.{◌≡◌, eqb, replicate};
-ghost use Rattle.rules.specs.State.{blank as blankState, new_cycle};
+ghost use Rattle.rules.specs.State.{blank as blank_state, new_cycle};
 ghost use Rattle.rules.specs.Steps.{next};
 ghost use Rattle.tuf.specs.View.{view};
 
@@ -84,7 +86,7 @@ fn id(mark: u8) -> Id
 // ---- Structs that hold a state: its start time is the mark
 
 fn state_at(start: i64) -> State
-    ensures { view result ≡ next blankState (new_cycle start) }
+    ensures { view result ≡ next blank_state (new_cycle start) }
 {
     let step = State::blank().new_cycle(Time { seconds: start });
     step.state
@@ -92,7 +94,7 @@ fn state_at(start: i64) -> State
 
 #[unsafe(no_mangle)]
 pub extern "C" fn layout_state(start: i64) -> States
-    ensures { (view result.first ≡ next blankState (new_cycle start)) × (result.second ≡ result.first) }
+    ensures { (view result.first ≡ next blank_state (new_cycle start)) × (result.second ≡ result.first) }
 {
     let one = state_at(start);
     States {
@@ -103,7 +105,7 @@ pub extern "C" fn layout_state(start: i64) -> States
 
 #[unsafe(no_mangle)]
 pub extern "C" fn layout_step(answer: u8, start: i64) -> Steps
-    ensures { (result.first.answer ≡ answer) × (view result.first.state ≡ next blankState (new_cycle start)) × (result.second ≡ result.first) }
+    ensures { (result.first.answer ≡ answer) × (view result.first.state ≡ next blank_state (new_cycle start)) × (result.second ≡ result.first) }
 {
     let state = state_at(start);
     let one = Step { answer, state };

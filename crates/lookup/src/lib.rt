@@ -1,5 +1,7 @@
 // Values inside a canonical text, by place: members by name, elements in order, strings, numbers.
 // A place is an index into the text. The text was validated before: where no value stands at a place, the answer is any that ends.
+#![tactic(auto)]
+
 ghost use Rattle.std.specs.Prelude.{◌≡◌, length, drop};
 ghost use Rattle.base.specs.Bytes.{Bytes, same};
 ghost use Rattle.canonical_json.specs.Read.{raw};

@@ -1,4 +1,6 @@
 // Names that a snapshot lists: whether one was lost, what is said of `targets.json`, and a file against what is listed of it.
+#![tactic(auto)]
+
 ghost use Rattle.std.specs.Prelude.{◌≡◌};
 ghost use Rattle.base.specs.Bytes.{bytes, same};
 ghost use Rattle.rules.specs.Conditions.{lost as lost_of, other_length, other_digest};

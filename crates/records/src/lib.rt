@@ -1,4 +1,6 @@
 // What is read from files and held in the trusted state, as structs by value, and 01's limits. specs/View.antt says what each stands for.
+#![tactic(auto)]
+
 ghost use Rattle.std.specs.Prelude.{◌≡◌, min};
 
 use date::Time;

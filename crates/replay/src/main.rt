@@ -1,4 +1,6 @@
 // Plays a script of calls, one to a line, and writes one line for each: docs/REPLAY.md. It works line by line in a bounded buffer.
+#![tactic(auto)]
+
 mod calls;
 mod lines;
 

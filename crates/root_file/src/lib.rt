@@ -1,4 +1,6 @@
 // A root file, read (01, "Forms" and refusals 1 to 4, and A1's 16): the key table and the four roles at a place of a canonical text, and the whole file.
+#![tactic(auto)]
+
 ghost use Rattle.std.specs.Prelude.{◌≡◌, false, drop};
 ghost use Rattle.std.proofs.Math.Option.{some};
 ghost use Rattle.base.specs.Bytes.{bytes, same};
@@ -8,7 +10,7 @@ ghost use Rattle.lookup.specs.Place.{Takes, Tests, PlaceAfter, EndsAt, KnownEnd,
 ghost use Rattle.lookup.specs.declared.Found.TheVariants.{Nothing};
 ghost use Rattle.rules.specs.Limits.{max_keys, key_size};
 ghost use Rattle.rules.specs.Take.{must, hex};
-ghost use Rattle.rules.specs.Forms.{is_in, different, key as keyForm, keys as keysForm, keyid_of, own_table};
+ghost use Rattle.rules.specs.Forms.{is_in, different, key as key_form, keys as keys_form, keyid_of, own_table};
 ghost use Rattle.rules.specs.State.{root_in};
 ghost use Rattle.records.specs.View.{view_id, view_table};
 ghost use Rattle.forms.specs.Each.{each_member};
@@ -66,7 +68,7 @@ fn public_field(s: &[u8], found: Found) -> IdAt
 
 // The key of a member: its name begins at `name`, just past the opening quote, and its value at `value`.
 pub fn key_at(s: &[u8], name: usize, value: usize) -> KeyAt
-    ensures { Takes s.now value (keyForm (raw (drop name s.now))) (view_key_at result) × KnownEnd s.now value result.end }
+    ensures { Takes s.now value (key_form (raw (drop name s.now))) (view_key_at result) × KnownEnd s.now value result.end }
 {
     let id = forms::id_in(s, name);
     if !id.ok {
@@ -120,7 +122,7 @@ fn no_keys() -> KeysAt
 
 // 1 to 16 members, each a key.
 fn table_at(s: &[u8], at: usize) -> KeysAt
-    ensures { Takes s.now at (each_member 1 max_keys keyForm) (view_keys_at result) × KnownEnd s.now at result.end }
+    ensures { Takes s.now at (each_member 1 max_keys key_form) (view_keys_at result) × KnownEnd s.now at result.end }
 {
     let blank = no_key();
     let zeros = blank.key;
@@ -194,7 +196,7 @@ fn publics_differ(table: KeyTable) -> bool
 
 // "keys, 1 to 16".
 pub fn keys_at(s: &[u8], at: usize) -> KeysAt
-    ensures { Takes s.now at keysForm (view_keys_at result) × KnownEnd s.now at result.end }
+    ensures { Takes s.now at keys_form (view_keys_at result) × KnownEnd s.now at result.end }
 {
     let read = table_at(s, at);
     if !read.ok {
@@ -207,7 +209,7 @@ pub fn keys_at(s: &[u8], at: usize) -> KeysAt
 }
 
 fn keys_field(s: &[u8], found: Found) -> KeysAt
-    ensures { TakesMust s.now found keysForm (view_keys_at result) × FoundEnd s.now found result.end }
+    ensures { TakesMust s.now found keys_form (view_keys_at result) × FoundEnd s.now found result.end }
 {
     match found {
         Found::Nothing => {

@@ -1,9 +1,11 @@
 // The parts of reading a script and of writing its answers that touch nothing outside: the words of a line, numbers, and a line that is
 // put together piece by piece.
+#![tactic(auto)]
+
 ghost use Rattle.std.specs.Prelude.{◌≡◌, ◌+◌, ◌≤◌, length, drop, pos};
 ghost use Rattle.script.specs.Words.{first, behind, word as word_of, words as words_of};
 ghost use Rattle.std.proofs.Math.Option.{none};
-ghost use Rattle.script.specs.Numbers.{digits as digitsOf, number as number_of, time as time_of, through, below, view_number, view_moment};
+ghost use Rattle.script.specs.Numbers.{digits as digits_of, number as number_of, time as time_of, through, below, view_number, view_moment};
 
 use date::Time;
 
@@ -96,7 +98,7 @@ fn wide(b: u8) -> u64
 
 // The number that the digits from `at` on write, where it is at most `most`.
 fn digits(s: &[u8], at: usize, most: u64) -> Number
-    ensures { (view_number result ≡ digitsOf most 0 (drop at s.now)) × (result.value ≤ most) }
+    ensures { (view_number result ≡ digits_of most 0 (drop at s.now)) × (result.value ≤ most) }
 {
     let mut n: u64 = 0;
     let mut i = at;

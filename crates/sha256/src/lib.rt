@@ -1,11 +1,13 @@
 // SHA-256 (FIPS 180-4), and digests as lower-case hex.
+#![tactic(auto)]
+
 mod constants;
 
 ghost use Rattle.std.specs.Prelude.{◌≡◌, ◌+◌, ◌*◌, ◌/◌, ◌%◌, ◌<◌, ◌≤◌, length, take, drop, slice_index};
 ghost use Rattle.base.specs.Hex.{hex_digit, hex_of};
 ghost use Rattle.sha256.specs.Words.{add, rotr, ch, maj, Σ₀, Σ₁, σ₀, σ₁};
 ghost use Rattle.sha256.specs.Constants.{constants};
-ghost use Rattle.sha256.specs.Compress.{schedule, round as roundOf, rounds, sum as sum_of, compress as compressed};
+ghost use Rattle.sha256.specs.Compress.{schedule, round as round_of, rounds, sum as sum_of, compress as compressed};
 ghost use Rattle.sha256.specs.Message.{big_endian, zeros, padded, word_at, words_at, hashed, hash_bytes, digest_of};
 
 // A hash value, and the working variables of the rounds.
@@ -109,7 +111,7 @@ fn expand(m: [u32; ROUNDS]) -> [u32; ROUNDS]
 
 // One round, with its constant and its word.
 fn round(v: Hash, k: u32, w: u32) -> Hash
-    ensures { result ≡ roundOf v k w }
+    ensures { result ≡ round_of v k w }
 {
     let mixed = plus(plus(v.h, big_sigma_1(v.e)), choose(v.e, v.f, v.g));
     let t1 = plus(plus(mixed, k), w);

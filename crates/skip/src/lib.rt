@@ -1,4 +1,6 @@
 // Where a value ends, in a text that was validated before: nothing is validated again, and only quotes, backslashes and brackets matter.
+#![tactic(auto)]
+
 ghost use Rattle.std.specs.Prelude.{◌≡◌, true, ◌+◌, ◌≤◌, length};
 ghost use Rattle.skip.specs.Skim.{Bare, Leads, StringEnd, BracketEnd, DigitsEnd, WordEnd};
 ghost use Rattle.skip.specs.Ends.{Ends};

@@ -1,4 +1,6 @@
 // A snapshot file, read (01, refusals 1 to 4).
+#![tactic(auto)]
+
 ghost use Rattle.std.specs.Prelude.{◌≡◌, drop};
 ghost use Rattle.std.proofs.Math.Option.{none, some};
 ghost use Rattle.canonical_json.specs.Read.{raw};
@@ -6,7 +8,7 @@ ghost use Rattle.lookup.specs.Place.{Takes, KnownEnd, FoundEnd};
 ghost use Rattle.lookup.specs.declared.Found.TheVariants.{Nothing};
 ghost use Rattle.rules.specs.Limits.{max_name};
 ghost use Rattle.rules.specs.Take.{name_of};
-ghost use Rattle.rules.specs.Forms.{named as namedForm, names as namesForm};
+ghost use Rattle.rules.specs.Forms.{named as named_form, names as names_form};
 ghost use Rattle.rules.specs.State.{snapshot_in};
 ghost use Rattle.forms.specs.Member.{TakesMust};
 ghost use Rattle.snapshot_file.specs.View.{view_name_at, view_named_at, view_names_at, IsMissing, view_snapshot_read};
@@ -72,7 +74,7 @@ fn no_named() -> NamedAt
 
 // The member whose name is read at `i` and whose value stands at `at`.
 fn named_at(s: &[u8], i: usize, at: usize) -> NamedAt
-    ensures { Takes s.now at (namedForm (raw (drop i s.now))) (view_named_at result) × KnownEnd s.now at result.end }
+    ensures { Takes s.now at (named_form (raw (drop i s.now))) (view_named_at result) × KnownEnd s.now at result.end }
 {
     let read = name_in(s, i);
     if !read.ok {
@@ -116,7 +118,7 @@ fn no_names() -> NamesAt
 
 // 1 to 32 names, each with what is said of it, `targets.json` among them.
 fn names_at(s: &[u8], at: usize) -> NamesAt
-    ensures { Takes s.now at namesForm (view_names_at result) × KnownEnd s.now at result.end }
+    ensures { Takes s.now at names_form (view_names_at result) × KnownEnd s.now at result.end }
 {
     let none = no_named();
     let blank = none.named;
@@ -178,7 +180,7 @@ fn is_missing(found: Found) -> bool
 }
 
 fn meta_names(s: &[u8], found: Found) -> NamesAt
-    ensures { TakesMust s.now found namesForm (view_names_at result) × FoundEnd s.now found result.end }
+    ensures { TakesMust s.now found names_form (view_names_at result) × FoundEnd s.now found result.end }
 {
     match found {
         Found::Nothing => {

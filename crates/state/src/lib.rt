@@ -1,9 +1,11 @@
 // The trusted state by value: its steps, the tests of what is held that judging asks, and what is told of it.
+#![tactic(auto)]
+
 ghost use Rattle.std.specs.Prelude.{◌≡◌, not, ◌&&◌, ◌+◌, ltb, eqb};
 ghost use Rattle.base.specs.Bytes.{same};
 ghost use Rattle.canonical_json.specs.Fields.{keep};
-ghost use Rattle.date.specs.Calendar.{expired as expiredAt, earlier as earlierThan};
-ghost use Rattle.rules.specs.State.{blank as blankState};
+ghost use Rattle.date.specs.Calendar.{expired as expired_at, earlier as earlier_than};
+ghost use Rattle.rules.specs.State.{blank as blank_state};
 ghost use Rattle.rules.specs.Table.{of_held, absent};
 ghost use Rattle.rules.specs.Conditions.{rotates, rotates_targets, too_few, other_version, other_length, other_digest, lost, stale_snapshot, stale_targets, targets_entry, key_of};
 ghost use Rattle.rules.specs.Steps.{with_start, with_root, with_timestamp, with_snapshot, with_targets, root_alone};
@@ -114,7 +116,7 @@ fn version_if(held: bool, number: u64) -> Version
 impl State {
     // "the blank state, which holds no record and has the lowest signed 64-bit count as its start time"
     pub fn blank() -> State
-        ensures { view result ≡ blankState }
+        ensures { view result ≡ blank_state }
     {
         let never = Time {
             seconds: -9223372036854775808,
@@ -312,13 +314,13 @@ impl State {
     // ---- Refusals 7 and 14
 
     pub fn is_past(self, expires: Time) -> bool
-        ensures { result ≡ expiredAt expires.seconds (view self).start }
+        ensures { result ≡ expired_at expires.seconds (view self).start }
     {
         expires.expired(self.start)
     }
 
     pub fn has_past_root(self) -> bool
-        ensures { result ≡ of_held (view self).root (λ h. expiredAt h.expires (view self).start) }
+        ensures { result ≡ of_held (view self).root (λ h. expired_at h.expires (view self).start) }
     {
         if !self.held.root {
             return false;
@@ -327,7 +329,7 @@ impl State {
     }
 
     pub fn has_past_timestamp(self) -> bool
-        ensures { result ≡ of_held (view self).timestamp (λ h. expiredAt h.expires (view self).start) }
+        ensures { result ≡ of_held (view self).timestamp (λ h. expired_at h.expires (view self).start) }
     {
         if !self.held.timestamp {
             return false;
@@ -336,7 +338,7 @@ impl State {
     }
 
     pub fn has_past_snapshot(self) -> bool
-        ensures { result ≡ of_held (view self).snapshot (λ h. expiredAt h.expires (view self).start) }
+        ensures { result ≡ of_held (view self).snapshot (λ h. expired_at h.expires (view self).start) }
     {
         if !self.held.snapshot {
             return false;
@@ -345,7 +347,7 @@ impl State {
     }
 
     pub fn has_past_targets(self) -> bool
-        ensures { result ≡ of_held (view self).targets (λ h. expiredAt h.expires (view self).start) }
+        ensures { result ≡ of_held (view self).targets (λ h. expired_at h.expires (view self).start) }
     {
         if !self.held.targets {
             return false;
@@ -511,7 +513,7 @@ impl State {
     // ---- Refusal 17: a start time earlier than the latest one, which is the one in force
 
     pub fn is_earlier(self, start: Time) -> bool
-        ensures { result ≡ earlierThan start.seconds (view self).start }
+        ensures { result ≡ earlier_than start.seconds (view self).start }
     {
         start.earlier(self.start)
     }

@@ -1,11 +1,13 @@
 // A targets file, read (01, refusals 1 to 4), and the image of a path in it: one pass over its images does both. The search for the path
 // stops at the first name that is not smaller (02, A2).
+#![tactic(auto)]
+
 ghost use Rattle.std.specs.Prelude.{◌≡◌, true, false};
 ghost use Rattle.std.proofs.Math.Option.{none, some};
 ghost use Rattle.lookup.specs.Place.{Takes, KnownEnd, FoundEnd};
 ghost use Rattle.lookup.specs.declared.Found.TheVariants.{Nothing, At};
 ghost use Rattle.rules.specs.Limits.{digest_size};
-ghost use Rattle.rules.specs.Forms.{sha256, images as imagesForm};
+ghost use Rattle.rules.specs.Forms.{sha256, images as images_form};
 ghost use Rattle.rules.specs.State.{kept, targets_in};
 ghost use Rattle.forms.specs.View.{undone_at, HexAt};
 ghost use Rattle.forms.specs.Member.{TakesMust};
@@ -13,8 +15,8 @@ ghost use Rattle.targets_file.specs.Plain.{PlainLength};
 ghost use Rattle.targets_file.specs.Pass.{OneMore};
 ghost use Rattle.targets_file.specs.View.{ReadsImage, ReadsNamed, listing_in, view_search, view_images, seen, view_targets_read};
 
-use date::Time;
 use canonical_json::Skip;
+use date::Time;
 use lookup::{Found, Member, Number, Order};
 use records::{Entries, Id};
 
@@ -230,7 +232,7 @@ fn no_images() -> ImagesAt
 
 // 0 to 256 images. Each is read for its form, also after the search is over.
 fn each_image(s: &[u8], at: usize, path: &[u8]) -> ImagesAt
-    ensures { Takes s.now at (listing_in path.now imagesForm) (view_images result) × KnownEnd s.now at result.end }
+    ensures { Takes s.now at (listing_in path.now images_form) (view_images result) × KnownEnd s.now at result.end }
 {
     let mut search = not_found(false, 0);
     let mut n: usize = 0;
@@ -265,7 +267,7 @@ fn each_image(s: &[u8], at: usize, path: &[u8]) -> ImagesAt
 }
 
 fn images_field(s: &[u8], found: Found, path: &[u8]) -> ImagesAt
-    ensures { TakesMust s.now found (listing_in path.now imagesForm) (view_images result) × FoundEnd s.now found result.end }
+    ensures { TakesMust s.now found (listing_in path.now images_form) (view_images result) × FoundEnd s.now found result.end }
 {
     match found {
         Found::Nothing => {

@@ -1,4 +1,6 @@
 // A timestamp file, read (01, refusals 1 to 4).
+#![tactic(auto)]
+
 ghost use Rattle.std.specs.Prelude.{◌≡◌};
 ghost use Rattle.std.proofs.Math.Option.{some};
 ghost use Rattle.base.specs.Bytes.{bytes};

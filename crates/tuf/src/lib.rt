@@ -1,10 +1,12 @@
 // The library that a controller links: the trusted state and every call of 01. A call reads what it is given, judges it by 01's table and
 // returns the answer with the next state; a refusal returns the state that it was given. No call asks anything of its caller.
+#![tactic(auto)]
+
 ghost use Rattle.std.specs.Prelude.{◌≡◌, ◌+◌};
 ghost use Rattle.sha256.specs.Message.{digest_of};
-ghost use Rattle.rules.specs.State.{blank as blankState, new_cycle, new_root, new_timestamp, new_snapshot, new_targets};
+ghost use Rattle.rules.specs.State.{blank as blank_state, new_cycle, new_root, new_timestamp, new_snapshot, new_targets};
 ghost use Rattle.rules.specs.Steps.{Began};
-ghost use Rattle.rules.specs.Asked.{image_answer, look as lookInto, signed_part, entry_at};
+ghost use Rattle.rules.specs.Asked.{image_answer, look as look_into, signed_part, entry_at};
 ghost use Rattle.answers.specs.Number.{number_of};
 ghost use Rattle.records.specs.View.{view_id};
 ghost use Rattle.state.specs.Told.{Tells};
@@ -57,7 +59,7 @@ pub struct PublicKey {
 impl State {
     // "the blank state, which holds no record and has the lowest signed 64-bit count as its start time"
     pub fn blank() -> State
-        ensures { view result ≡ blankState }
+        ensures { view result ≡ blank_state }
     {
         let trusted = state::State::blank();
         State { trusted }
@@ -274,7 +276,7 @@ pub fn check_image(listed: u64, digest: &[u8], fetched: u64, hash: &[u8]) -> Ans
 
 // Where the signed part stands, and the number of entries; "A refused look gives an empty part and 0".
 pub fn look(file: &[u8]) -> Looked
-    ensures { view_look result ≡ lookInto file.now }
+    ensures { view_look result ≡ look_into file.now }
 {
     inspect::look(file)
 }
@@ -282,7 +284,7 @@ pub fn look(file: &[u8]) -> Looked
 // "the signed part of the caller's own bytes, not a copy".
 pub fn signed_part(file: &[u8]) -> &[u8]
     ensures result_value { result.now ≡ signed_part file.now }
-    ensures ref_ptr_value { (result.ref_ptr.0 ≡ file.entry.ref_ptr.0) × (result.ref_ptr.1 ≡ (lookInto file.now).start + file.entry.ref_ptr.1) }
+    ensures ref_ptr_value { (result.ref_ptr.0 ≡ file.entry.ref_ptr.0) × (result.ref_ptr.1 ≡ (look_into file.now).start + file.entry.ref_ptr.1) }
 {
     inspect::signed_part(file)
 }
