@@ -40,6 +40,9 @@ def code_of(text, mark):
             j = n if j < 0 else j
             out.append(" " * (j - i))
             i = j
+        elif mark == "//" and (m := re.compile(r"b?'(?:\\.|[^'\\])'").match(text, i)):
+            out.append(" " * len(m[0]))
+            i = m.end()
         elif text[i] == '"' or (text[i] == "b" and text.startswith('b"', i)):
             k = i + (2 if text[i] == "b" else 1)
             while k < n and text[k] != '"':
@@ -68,7 +71,7 @@ def main():
     # every word that the repository's own files declare, and those that they take from the toolchain
     declared, lemmas, foreign = {}, {}, set()
     for p, t in antt.items():
-        if p.endswith("/Proof.antt"):
+        if p.endswith(("/Proof.antt", "/Answers.antt", "/Invariants.antt")):
             continue
         for kind, name in DECLARED.findall(t):
             declared.setdefault(name, set()).add(p)
@@ -148,7 +151,7 @@ def main():
     for p, t in texts.items():
         kept = code_of(t, "--" if p.endswith(".antt") else "//")
         out, last, was = [], 0, t
-        mine = set(PROOF_OWN.findall(kept)) if p.endswith("/Proof.antt") else set()
+        mine = set(PROOF_OWN.findall(kept)) if p.endswith(("/Proof.antt", "/Answers.antt", "/Invariants.antt")) else set()
         # a name that this file takes from the toolchain is not the repository's
         for m in re.finditer(r"^\s*(?:pub |ghost )*use (\S+?)\.\{([^}]*)\}", kept, re.M):
             if not m[1].startswith("Rattle.") or m[1].startswith("Rattle.std."):

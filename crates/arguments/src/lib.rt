@@ -12,7 +12,7 @@ pub const ARGUMENTS: usize = 4;
 const ARGUMENT: usize = 1048577;
 
 // What is wrong with a line.
-#[derive(Drop)]
+#[derive(Clone, Copy)]
 pub enum Problem {
     None,
     Call,
@@ -24,7 +24,7 @@ pub enum Problem {
 }
 
 // An argument is bytes, those of the buffer from `from` up to `to`, or a number, or a time.
-#[derive(Drop)]
+#[derive(Clone, Copy)]
 pub struct Argument {
     pub problem: Problem,
     pub from: usize,
@@ -33,7 +33,7 @@ pub struct Argument {
     pub time: Time,
 }
 
-#[derive(Drop)]
+#[derive(Clone, Copy)]
 pub struct Arguments {
     pub problem: Problem,
     pub all: [Argument; 4],
@@ -49,7 +49,7 @@ pub fn is_wrong(problem: Problem) -> bool {
 // ---- Bytes
 
 // The first `length` bytes of a buffer.
-#[derive(Drop)]
+#[derive(Clone, Copy)]
 struct Unpacked {
     problem: Problem,
     length: usize,

@@ -7,13 +7,13 @@ ghost use Rattle.base.specs.Window.{byte_at, window};
 ghost use Rattle.base.specs.Hex.{digit_of, all_hex, is_hex, Undone};
 
 // Bytes undone from hex; zeros where they were refused.
-#[derive(Drop)]
+#[derive(Clone, Copy)]
 pub struct Bytes32 {
     pub ok: bool,
     pub bytes: [u8; 32],
 }
 
-#[derive(Drop)]
+#[derive(Clone, Copy)]
 pub struct Bytes64 {
     pub ok: bool,
     pub bytes: [u8; 64],

@@ -16,7 +16,7 @@ pub const MAX_DEPTH: u8 = 8;
 const BLOCK: usize = 16;
 
 // What a lead byte begins.
-#[derive(Drop)]
+#[derive(Clone, Copy)]
 pub enum LeadByte {
     Bad,
     Seq { more: u8, lo: u8, hi: u8 },
@@ -79,7 +79,7 @@ pub fn lead(b: u8) -> LeadByte
 }
 
 // Where what was read ends, or that it is refused.
-#[derive(Drop)]
+#[derive(Clone, Copy)]
 pub enum Skip {
     No,
     End(usize),
@@ -132,7 +132,7 @@ fn tail_end(s: &[u8], at: usize, more: u8, lo: u8, hi: u8) -> Skip
 // The escape or the character at i, where no quote stands. ASCII comes first: it is most of what is read.
 fn char_end(s: &[u8], i: usize) -> Skip
     requires { (i < length s.now) × (get_or s.now i 0 ≡ 34 → ⊥) }
-    ensures { Skips s.now (readStr (drop i s.now)) (i + 1) result }
+    ensures { Skips s.now (read_str (drop i s.now)) (i + 1) result }
 {
     let b = s[i];
     let j = i + 1;
@@ -216,7 +216,7 @@ pub fn string(s: &[u8], at: usize) -> Skip
 }
 
 // The kinds of value, as the first byte tells them.
-#[derive(Drop)]
+#[derive(Clone, Copy)]
 pub enum Kind {
     Text,
     Minus,
@@ -301,7 +301,7 @@ fn word(s: &[u8], at: usize, w: &[u8]) -> Skip
 }
 
 // One byte of a name in the text, escapes undone, and where the next stands.
-#[derive(Drop)]
+#[derive(Clone, Copy)]
 pub enum Char {
     Close,
     Byte(u8, usize),
@@ -352,7 +352,7 @@ fn is_shared_block(s: &[u8], a: usize, b: usize) -> bool
 }
 
 // Places in two names.
-#[derive(Drop)]
+#[derive(Clone, Copy)]
 struct Places {
     a: usize,
     b: usize,
@@ -412,7 +412,7 @@ fn name_less(s: &[u8], a: usize, b: usize) -> bool
 }
 
 // Where the name before a member stands, just past its opening quote.
-#[derive(Drop)]
+#[derive(Clone, Copy)]
 pub enum Last {
     Nothing,
     Name(usize),
@@ -517,7 +517,7 @@ pub fn array(s: &[u8], at: usize, depth: u8) -> Skip
 // The member at i, whose name must follow the one before.
 #[cycle(array_object_pair_value)]
 fn pair(s: &[u8], i: usize, last: Last, depth: u8) -> Skip
-    ensures { result ≡ end_of (length s.now) (memberOf (read depth) (last_of s.now last) (drop i s.now)) }
+    ensures { result ≡ end_of (length s.now) (member_of (read depth) (last_of s.now last) (drop i s.now)) }
 {
     if s.len() <= i {
         return Skip::No;

@@ -23,14 +23,14 @@ use tuf::State;
 // ---- What the calls give back
 
 #[repr(C)]
-#[derive(Drop)]
+#[derive(Clone, Copy)]
 pub struct Step {
     pub answer: u8,
     pub state: State,
 }
 
 #[repr(C)]
-#[derive(Drop)]
+#[derive(Clone, Copy)]
 pub struct Image {
     pub answer: u8,
     pub length: u64,
@@ -39,14 +39,14 @@ pub struct Image {
 }
 
 #[repr(C)]
-#[derive(Drop)]
+#[derive(Clone, Copy)]
 pub struct PublicKey {
     pub answer: u8,
     pub public: Id,
 }
 
 #[repr(C)]
-#[derive(Drop)]
+#[derive(Clone, Copy)]
 pub struct Looked {
     pub answer: u8,
     pub start: usize,
@@ -55,7 +55,7 @@ pub struct Looked {
 }
 
 #[repr(C)]
-#[derive(Drop)]
+#[derive(Clone, Copy)]
 pub struct EntryRead {
     pub answer: u8,
     pub keyid: Id,

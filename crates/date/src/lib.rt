@@ -12,13 +12,13 @@ const DAY: i64 = 86400;
 
 // A count of seconds from 1970-01-01T00:00:00Z.
 #[repr(C)]
-#[derive(Drop)]
+#[derive(Clone, Copy)]
 pub struct Time {
     pub seconds: i64,
 }
 
 // What a text is: the date it writes, or none.
-#[derive(Drop)]
+#[derive(Clone, Copy)]
 pub enum Date {
     At(Time),
     Bad,

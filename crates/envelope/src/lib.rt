@@ -33,7 +33,7 @@ pub const OTHER_KEYID: u8 = 16;
 // ---- Signature entries
 
 // An entry, by where the digits of its keyid and of its signature stand, and where it ends.
-#[derive(Drop)]
+#[derive(Clone, Copy)]
 pub struct EntryAt {
     pub ok: bool,
     pub keyid: usize,
@@ -126,7 +126,7 @@ pub fn entry_at(s: &[u8], at: usize) -> EntryAt
 }
 
 // The entries, and where they end.
-#[derive(Drop)]
+#[derive(Clone, Copy)]
 pub struct EntriesAt {
     pub ok: bool,
     pub entries: Entries,
@@ -227,7 +227,7 @@ fn spec_in(s: &[u8], i: usize) -> bool
     one_dot(s, i)
 }
 
-#[derive(Drop)]
+#[derive(Clone, Copy)]
 pub struct Spec {
     pub ok: bool,
     pub known: bool,
@@ -266,7 +266,7 @@ fn spec_field(s: &[u8], found: Found) -> Spec
     }
 }
 
-#[derive(Drop)]
+#[derive(Clone, Copy)]
 pub struct HeaderAt {
     pub ok: bool,
     pub known: bool,
@@ -348,7 +348,7 @@ fn is_object(s: &[u8], at: usize) -> bool
 }
 
 // An envelope that was opened: the place of the signed part, and the keyids of its entries.
-#[derive(Drop)]
+#[derive(Clone, Copy)]
 pub struct Opened {
     pub answer: u8,
     pub start: usize,

@@ -37,7 +37,7 @@ fn fill_text(s: &[u8], i: usize, out: &mut [u8]) -> bool
 // ---- Hex
 
 // A keyid, a public key or a digest.
-#[derive(Drop)]
+#[derive(Clone, Copy)]
 pub struct IdAt {
     pub ok: bool,
     pub id: Id,
@@ -109,7 +109,7 @@ pub fn id_in(s: &[u8], i: usize) -> IdAt
 
 // 128 digits.
 pub fn sig_in(s: &[u8], i: usize) -> Bytes64
-    ensures { viewSig result ≡ unhex signatureSize (raw (drop i s.now)) }
+    ensures { view_sig result ≡ unhex signature_size (raw (drop i s.now)) }
 {
     if base::byte_after(s, i, 128) != b'"' {
         return sig_escaped(s, i);
@@ -168,7 +168,7 @@ pub fn has_digits(s: &[u8], i: usize, n: usize) -> bool
 
 // Where the digits begin, if the value at `at` is n bytes in hex. No digit is ever escaped, so that they stand there as they are.
 fn digits_at(s: &[u8], at: usize, n: usize) -> Found
-    ensures { Takes s.now at (hex n) (undoneAt s.now result) × HexAt n s.now result }
+    ensures { Takes s.now at (hex n) (undone_at s.now result) × HexAt n s.now result }
 {
     match lookup::string_at(s, at) {
         Found::Nothing => {
@@ -184,7 +184,7 @@ fn digits_at(s: &[u8], at: usize, n: usize) -> Found
 }
 
 pub fn digits_field(s: &[u8], found: Found, n: usize) -> Found
-    ensures { TakesMust s.now found (hex n) (undoneAt s.now result) × HexAt n s.now result }
+    ensures { TakesMust s.now found (hex n) (undone_at s.now result) × HexAt n s.now result }
 {
     match found {
         Found::Nothing => {
@@ -199,7 +199,7 @@ pub fn digits_field(s: &[u8], found: Found, n: usize) -> Found
 // ---- Numbers
 
 pub fn number_field(s: &[u8], found: Found, lo: u64, hi: u64) -> Number
-    ensures { TakesMust s.now found (number lo hi) (viewNumber result) }
+    ensures { TakesMust s.now found (number lo hi) (view_number result) }
 {
     match found {
         Found::Nothing => {
@@ -212,7 +212,7 @@ pub fn number_field(s: &[u8], found: Found, lo: u64, hi: u64) -> Number
 }
 
 // A member that may be missing: `given` where it is there.
-#[derive(Drop)]
+#[derive(Clone, Copy)]
 pub struct MayNumber {
     pub ok: bool,
     pub given: bool,
@@ -220,7 +220,7 @@ pub struct MayNumber {
 }
 
 fn number_may(s: &[u8], found: Found, lo: u64, hi: u64) -> MayNumber
-    ensures { TakesMay s.now found (number lo hi) (viewMayNumber result) }
+    ensures { TakesMay s.now found (number lo hi) (view_may_number result) }
 {
     match found {
         Found::Nothing => {
@@ -251,7 +251,7 @@ fn number_may(s: &[u8], found: Found, lo: u64, hi: u64) -> MayNumber
 
 // "version" 1 to 9,007,199,254,740,991 (A7).
 pub fn version_field(s: &[u8], found: Found) -> Number
-    ensures { TakesMust s.now found (number 1 maxVersion) (viewNumber result) }
+    ensures { TakesMust s.now found (number 1 max_version) (view_number result) }
 {
     number_field(s, found, 1, records::MAX_VERSION)
 }
@@ -286,7 +286,7 @@ pub fn word_field(s: &[u8], found: Found, k: &[u8]) -> bool
 }
 
 fn date_in(s: &[u8], i: usize) -> Date
-    ensures { viewDate result ≡ dateOf (raw (drop i s.now)) }
+    ensures { view_date result ≡ date_of (raw (drop i s.now)) }
 {
     let mut text = [0u8; 20];
     if !fill_text(s, i, &mut text) {
@@ -296,7 +296,7 @@ fn date_in(s: &[u8], i: usize) -> Date
 }
 
 fn date_at(s: &[u8], at: usize) -> Date
-    ensures { Takes s.now at dateForm (viewDate result) }
+    ensures { Takes s.now at date_form (view_date result) }
 {
     match lookup::string_at(s, at) {
         Found::Nothing => {
@@ -309,7 +309,7 @@ fn date_at(s: &[u8], at: usize) -> Date
 }
 
 pub fn date_field(s: &[u8], found: Found) -> Date
-    ensures { TakesMust s.now found dateForm (viewDate result) }
+    ensures { TakesMust s.now found date_form (view_date result) }
 {
     match found {
         Found::Nothing => {
@@ -325,12 +325,12 @@ pub fn date_field(s: &[u8], found: Found) -> Date
 
 // The "sha256" of the hashes at `at`.
 fn digest_at(s: &[u8], at: usize) -> IdAt
-    ensures { Takes s.now at sha256 (viewIdAt result) }
+    ensures { Takes s.now at sha256 (view_id_at result) }
 {
     id_field(s, lookup::find_member(s, at, b"sha256"))
 }
 
-#[derive(Drop)]
+#[derive(Clone, Copy)]
 pub struct MayId {
     pub ok: bool,
     pub given: bool,
@@ -339,7 +339,7 @@ pub struct MayId {
 
 // "hashes", where it is there.
 fn digest_may(s: &[u8], found: Found) -> MayId
-    ensures { TakesMay s.now found sha256 (viewMayId result) }
+    ensures { TakesMay s.now found sha256 (view_may_id result) }
 {
     match found {
         Found::Nothing => {
@@ -362,7 +362,7 @@ fn digest_may(s: &[u8], found: Found) -> MayId
 }
 
 // What is said, and where it ends.
-#[derive(Drop)]
+#[derive(Clone, Copy)]
 pub struct ListedAt {
     pub ok: bool,
     pub listed: Listed,
@@ -371,7 +371,7 @@ pub struct ListedAt {
 
 // Nothing, for a form that is broken.
 pub fn no_listed() -> ListedAt
-    ensures { (viewListedAt result ≡ none) × (result.end ≡ Nothing) }
+    ensures { (view_listed_at result ≡ none) × (result.end ≡ Nothing) }
 {
     ListedAt {
         ok: false,
@@ -388,7 +388,7 @@ pub fn no_listed() -> ListedAt
 
 // "version", and where they are given "length" and "hashes".
 pub fn listed_at(s: &[u8], at: usize) -> ListedAt
-    ensures { Takes s.now at listedForm (viewListedAt result) × KnownEnd s.now at result.end }
+    ensures { Takes s.now at listed_form (view_listed_at result) × KnownEnd s.now at result.end }
 {
     let m = lookup::find_members(s, at, b"version", b"length", b"hashes", b"");
     let first = m.first;

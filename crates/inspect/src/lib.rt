@@ -17,7 +17,7 @@ use records::Id;
 // ---- The signed part
 
 // The signed part by its place and length, and the number of entries; zeros where it is refused.
-#[derive(Drop)]
+#[derive(Clone, Copy)]
 pub struct Looked {
     pub answer: Answer,
     pub start: usize,
@@ -77,7 +77,7 @@ pub fn signed_part(file: &[u8]) -> &[u8]
 // ---- One entry
 
 // One entry; zeros where it is refused.
-#[derive(Drop)]
+#[derive(Clone, Copy)]
 pub struct EntryRead {
     pub answer: Answer,
     pub keyid: Id,

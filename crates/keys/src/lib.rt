@@ -12,7 +12,7 @@ ghost use Rattle.keys.specs.Signers.{Marks, signs_at, has_id, Asked};
 use records::{Entries, Id, KeyTable, Role};
 
 // A key's public value; zeros where there is no such key.
-#[derive(Drop)]
+#[derive(Clone, Copy)]
 pub struct Public {
     pub found: bool,
     pub public: Id,

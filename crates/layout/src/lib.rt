@@ -15,63 +15,63 @@ use state::{Version, Versions};
 use tuf::State;
 
 #[repr(C)]
-#[derive(Drop)]
+#[derive(Clone, Copy)]
 pub struct States {
     pub first: State,
     pub second: State,
 }
 
 #[repr(C)]
-#[derive(Drop)]
+#[derive(Clone, Copy)]
 pub struct Steps {
     pub first: Step,
     pub second: Step,
 }
 
 #[repr(C)]
-#[derive(Drop)]
+#[derive(Clone, Copy)]
 pub struct Images {
     pub first: Image,
     pub second: Image,
 }
 
 #[repr(C)]
-#[derive(Drop)]
+#[derive(Clone, Copy)]
 pub struct PublicKeys {
     pub first: PublicKey,
     pub second: PublicKey,
 }
 
 #[repr(C)]
-#[derive(Drop)]
+#[derive(Clone, Copy)]
 pub struct Digests {
     pub first: Id,
     pub second: Id,
 }
 
 #[repr(C)]
-#[derive(Drop)]
+#[derive(Clone, Copy)]
 pub struct Looks {
     pub first: Looked,
     pub second: Looked,
 }
 
 #[repr(C)]
-#[derive(Drop)]
+#[derive(Clone, Copy)]
 pub struct Entries {
     pub first: EntryRead,
     pub second: EntryRead,
 }
 
 #[repr(C)]
-#[derive(Drop)]
+#[derive(Clone, Copy)]
 pub struct TwoVersion {
     pub first: Version,
     pub second: Version,
 }
 
 #[repr(C)]
-#[derive(Drop)]
+#[derive(Clone, Copy)]
 pub struct TwoVersions {
     pub first: Versions,
     pub second: Versions,

@@ -13,7 +13,7 @@ ghost use Rattle.lookup.specs.Leaves.{string_in, order_of, Copies, leading_to, n
 use canonical_json::{Char, Skip};
 
 // The place of what was looked for.
-#[derive(Drop)]
+#[derive(Clone, Copy)]
 pub enum Found {
     Nothing,
     At(usize),
@@ -56,7 +56,7 @@ fn end_by(s: &[u8], at: usize, known: Found) -> Found
 // ---- Elements of an array
 
 // The place of the next element; past the last one, just past the closing bracket.
-#[derive(Drop)]
+#[derive(Clone, Copy)]
 pub enum Element {
     NoArray,
     End(usize),
@@ -129,7 +129,7 @@ pub fn next_element_by(s: &[u8], i: usize, end: Found) -> Element
 
 // The next member: the place of its name, just past the opening quote, and the place of its value; past the last one, just past the
 // closing brace.
-#[derive(Drop)]
+#[derive(Clone, Copy)]
 pub enum Member {
     NoObject,
     End(usize),
@@ -199,7 +199,7 @@ pub fn next_member_by(s: &[u8], value: usize, end: Found) -> Member
 }
 
 // A value, by its place, whose end a reader may have told.
-#[derive(Drop)]
+#[derive(Clone, Copy)]
 pub struct Extent {
     pub at: usize,
     pub end: Found,
@@ -273,7 +273,7 @@ pub fn find_member_by(s: &[u8], at: usize, name: &[u8], known: Extent) -> Found
 // ---- Several members in one walk
 
 // The values of four members by their places, and the end of the object that they were looked for in.
-#[derive(Drop)]
+#[derive(Clone, Copy)]
 pub struct Members {
     pub first: Found,
     pub second: Found,
@@ -371,7 +371,7 @@ pub fn string_at(s: &[u8], at: usize) -> Found
 }
 
 // How a string stands to another in the order of names.
-#[derive(Drop)]
+#[derive(Clone, Copy)]
 pub enum Order {
     Smaller,
     Equal,
@@ -464,7 +464,7 @@ pub fn copy_text(s: &[u8], i: usize, out: &mut [u8]) -> bool
 
 // ---- Numbers and truth values
 
-#[derive(Drop)]
+#[derive(Clone, Copy)]
 pub enum Number {
     No,
     Is(u64),
@@ -478,7 +478,7 @@ fn wide(b: u8) -> u64
 
 // The number that the digits at `at` write, where it is at most hi. No sum wraps, however many digits there are.
 fn digits(s: &[u8], at: usize, hi: u64) -> Number
-    ensures { viewNumber result ≡ leadingTo hi (drop at s.now) }
+    ensures { view_number result ≡ leading_to hi (drop at s.now) }
 {
     let mut n: u64 = 0;
     let mut i = at;
@@ -506,7 +506,7 @@ fn digits(s: &[u8], at: usize, hi: u64) -> Number
 
 // The whole number from lo to hi that stands at `at`.
 pub fn number_at(s: &[u8], at: usize, lo: u64, hi: u64) -> Number
-    ensures { viewNumber result ≡ number_in lo hi (drop at s.now) }
+    ensures { view_number result ≡ number_in lo hi (drop at s.now) }
 {
     if s.len() <= at {
         return Number::No;
@@ -531,7 +531,7 @@ pub fn number_at(s: &[u8], at: usize, lo: u64, hi: u64) -> Number
     }
 }
 
-#[derive(Drop)]
+#[derive(Clone, Copy)]
 pub enum Truth {
     No,
     Is(bool),
@@ -539,7 +539,7 @@ pub enum Truth {
 
 // true or false, where it stands at `at`.
 pub fn truth_at(s: &[u8], at: usize) -> Truth
-    ensures { viewTruth result ≡ truthIn (drop at s.now) }
+    ensures { view_truth result ≡ truth_in (drop at s.now) }
 {
     if s.len() <= at {
         return Truth::No;

@@ -34,21 +34,21 @@ pub const SIGNATURE: usize = 64;
 
 // A keyid, a public key or a digest.
 #[repr(C)]
-#[derive(Drop)]
+#[derive(Clone, Copy)]
 pub struct Id {
     pub bytes: [u8; 32],
 }
 
 // The keyids of a file's signature entries, in file order: the first `count` are meant.
 #[repr(C)]
-#[derive(Drop)]
+#[derive(Clone, Copy)]
 pub struct Entries {
     pub count: usize,
     pub ids: [Id; 16],
 }
 
 #[repr(C)]
-#[derive(Drop)]
+#[derive(Clone, Copy)]
 pub struct Key {
     pub keyid: Id,
     pub public: Id,
@@ -56,7 +56,7 @@ pub struct Key {
 
 // The first `count` are meant.
 #[repr(C)]
-#[derive(Drop)]
+#[derive(Clone, Copy)]
 pub struct KeyTable {
     pub count: usize,
     pub keys: [Key; 16],
@@ -64,14 +64,14 @@ pub struct KeyTable {
 
 // The role's keys as bits over the key table, and how many of them have to sign.
 #[repr(C)]
-#[derive(Drop)]
+#[derive(Clone, Copy)]
 pub struct Role {
     pub keys: u16,
     pub threshold: u64,
 }
 
 #[repr(C)]
-#[derive(Drop)]
+#[derive(Clone, Copy)]
 pub struct Root {
     pub version: u64,
     pub expires: Time,
@@ -84,7 +84,7 @@ pub struct Root {
 
 // What is said of a listed file: the length and the digest only where they are given.
 #[repr(C)]
-#[derive(Drop)]
+#[derive(Clone, Copy)]
 pub struct Listed {
     pub version: u64,
     pub measured: bool,
@@ -94,7 +94,7 @@ pub struct Listed {
 }
 
 #[repr(C)]
-#[derive(Drop)]
+#[derive(Clone, Copy)]
 pub struct Timestamp {
     pub version: u64,
     pub expires: Time,
@@ -103,14 +103,14 @@ pub struct Timestamp {
 
 // A name has the first `length` bytes.
 #[repr(C)]
-#[derive(Drop)]
+#[derive(Clone, Copy)]
 pub struct Name {
     pub length: usize,
     pub bytes: [u8; 32],
 }
 
 #[repr(C)]
-#[derive(Drop)]
+#[derive(Clone, Copy)]
 pub struct Named {
     pub name: Name,
     pub listed: Listed,
@@ -118,14 +118,14 @@ pub struct Named {
 
 // The first `count` are meant.
 #[repr(C)]
-#[derive(Drop)]
+#[derive(Clone, Copy)]
 pub struct Names {
     pub count: usize,
     pub named: [Named; 32],
 }
 
 #[repr(C)]
-#[derive(Drop)]
+#[derive(Clone, Copy)]
 pub struct Snapshot {
     pub version: u64,
     pub expires: Time,
@@ -133,7 +133,7 @@ pub struct Snapshot {
 }
 
 #[repr(C)]
-#[derive(Drop)]
+#[derive(Clone, Copy)]
 pub struct Targets {
     pub version: u64,
     pub expires: Time,

@@ -5,7 +5,7 @@ use arguments::{Arguments, Problem};
 use date::Date;
 use tuf::{State, Step};
 
-#[derive(Drop)]
+#[derive(Clone, Copy)]
 pub enum Call {
     Unknown,
     Text,

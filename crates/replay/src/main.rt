@@ -18,7 +18,7 @@ const BYTES: usize = 3145729;
 // ---- The script, line by line
 
 // Where the run stands: the bytes of the buffer that are still to be played are those from `from` up to `to`.
-#[derive(Drop)]
+#[derive(Clone, Copy)]
 struct Progress {
     from: usize,
     to: usize,

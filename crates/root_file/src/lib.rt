@@ -28,7 +28,7 @@ use records::{Entries, Id, Key, KeyTable, Role, Root};
 // ---- Keys
 
 // A key, and where it ends.
-#[derive(Drop)]
+#[derive(Clone, Copy)]
 pub struct KeyAt {
     pub ok: bool,
     pub key: Key,
@@ -98,7 +98,7 @@ pub fn key_at(s: &[u8], name: usize, value: usize) -> KeyAt
 // ---- The key table
 
 // The key table, and where it ends.
-#[derive(Drop)]
+#[derive(Clone, Copy)]
 pub struct KeysAt {
     pub ok: bool,
     pub table: KeyTable,
@@ -278,7 +278,7 @@ fn keyids_field(s: &[u8], found: Found) -> bool
 // ---- Roles
 
 // A role's keyids as bits over the key table, how many there are, and where they end.
-#[derive(Drop)]
+#[derive(Clone, Copy)]
 struct NamingAt {
     ok: bool,
     keys: u16,
@@ -357,7 +357,7 @@ fn naming_field(s: &[u8], found: Found, table: KeyTable) -> NamingAt
     }
 }
 
-#[derive(Drop)]
+#[derive(Clone, Copy)]
 pub struct RoleAt {
     pub ok: bool,
     pub role: Role,
@@ -416,7 +416,7 @@ fn role_field(s: &[u8], found: Found, table: KeyTable) -> RoleAt
 }
 
 // The roles, and where they end.
-#[derive(Drop)]
+#[derive(Clone, Copy)]
 struct RolesAt {
     ok: bool,
     root: Role,
@@ -515,7 +515,7 @@ fn has_snapshot_rule(s: &[u8], found: Found) -> bool
 }
 
 // A root's body, and where its roles stand and end.
-#[derive(Drop)]
+#[derive(Clone, Copy)]
 pub struct RootAt {
     pub ok: bool,
     pub table: KeyTable,
@@ -582,7 +582,7 @@ pub fn root_at(s: &[u8], at: usize) -> RootAt
 }
 
 // What is kept of a root file, with the keyids of its entries; or the refusal.
-#[derive(Drop)]
+#[derive(Clone, Copy)]
 pub struct RootRead {
     pub answer: u8,
     pub root: Root,

@@ -69,13 +69,13 @@ pub fn word(line: &[u8], k: usize) -> &[u8]
 
 // ---- Numbers
 
-#[derive(Drop)]
+#[derive(Clone, Copy)]
 pub struct Number {
     pub ok: bool,
     pub value: u64,
 }
 
-#[derive(Drop)]
+#[derive(Clone, Copy)]
 pub struct Moment {
     pub ok: bool,
     pub time: Time,

@@ -11,7 +11,7 @@ ghost use Rattle.sha256.specs.Compress.{schedule, round as round_of, rounds, sum
 ghost use Rattle.sha256.specs.Message.{big_endian, zeros, padded, word_at, words_at, hashed, hash_bytes, digest_of};
 
 // A hash value, and the working variables of the rounds.
-#[derive(Drop)]
+#[derive(Clone, Copy)]
 struct Hash {
     a: u32,
     b: u32,

@@ -19,7 +19,7 @@ use records::{Entries, Name, Named, Names, Snapshot};
 
 // ---- A name
 
-#[derive(Drop)]
+#[derive(Clone, Copy)]
 pub struct NameAt {
     pub ok: bool,
     pub name: Name,
@@ -47,7 +47,7 @@ fn name_in(s: &[u8], i: usize) -> NameAt
 // ---- What is said of a name
 
 // A name with what is said of it, and where that ends.
-#[derive(Drop)]
+#[derive(Clone, Copy)]
 pub struct NamedAt {
     pub ok: bool,
     pub named: Named,
@@ -94,7 +94,7 @@ fn named_at(s: &[u8], i: usize, at: usize) -> NamedAt
 // ---- "meta"
 
 // The names, and where they end.
-#[derive(Drop)]
+#[derive(Clone, Copy)]
 pub struct NamesAt {
     pub ok: bool,
     pub names: Names,
@@ -195,7 +195,7 @@ fn meta_names(s: &[u8], found: Found) -> NamesAt
 // ---- The file
 
 // What a snapshot file says, with the keyids of its entries; or the refusal.
-#[derive(Drop)]
+#[derive(Clone, Copy)]
 pub struct SnapshotRead {
     pub answer: u8,
     pub snapshot: Snapshot,

@@ -23,7 +23,7 @@ use records::{
 
 // Which records are held.
 #[repr(C)]
-#[derive(Drop)]
+#[derive(Clone, Copy)]
 pub struct Held {
     root: bool,
     timestamp: bool,
@@ -32,7 +32,7 @@ pub struct Held {
 }
 
 #[repr(C)]
-#[derive(Drop)]
+#[derive(Clone, Copy)]
 pub struct State {
     start: Time,
     held: Held,
@@ -44,7 +44,7 @@ pub struct State {
 
 // A record's version, where the record is held; else 0.
 #[repr(C)]
-#[derive(Drop)]
+#[derive(Clone, Copy)]
 pub struct Version {
     pub held: bool,
     pub number: u64,
@@ -52,7 +52,7 @@ pub struct Version {
 
 // What is told of a state: the held versions and the start time.
 #[repr(C)]
-#[derive(Drop)]
+#[derive(Clone, Copy)]
 pub struct Versions {
     pub root: Version,
     pub timestamp: Version,

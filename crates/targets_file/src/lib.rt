@@ -23,7 +23,7 @@ use records::{Entries, Id};
 // ---- An image
 
 // An image: its length, where the digits of its digest stand, and where it ends. Of most images no more is asked than their form.
-#[derive(Drop)]
+#[derive(Clone, Copy)]
 pub struct ImageAt {
     pub ok: bool,
     pub length: u64,
@@ -159,7 +159,7 @@ fn image_at(s: &[u8], i: usize, at: usize) -> ImageAt
 // ---- The search for a path
 
 // What the search says so far: whether it is over, how many names it compared, and the image that it found.
-#[derive(Drop)]
+#[derive(Clone, Copy)]
 pub struct Search {
     pub over: bool,
     pub compared: usize,
@@ -212,7 +212,7 @@ fn with_image(s: &[u8], search: Search, n: usize, i: usize, image: ImageAt, path
 // ---- "targets"
 
 // Whether all images have their form, what the search among them says, and where they end.
-#[derive(Drop)]
+#[derive(Clone, Copy)]
 pub struct ImagesAt {
     pub ok: bool,
     pub search: Search,
@@ -282,7 +282,7 @@ fn images_field(s: &[u8], found: Found, path: &[u8]) -> ImagesAt
 // ---- The file
 
 // What is looked at in a targets file, with the keyids of its entries; or the refusal.
-#[derive(Drop)]
+#[derive(Clone, Copy)]
 pub struct TargetsRead {
     pub answer: u8,
     pub version: u64,

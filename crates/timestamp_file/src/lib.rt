@@ -69,7 +69,7 @@ fn meta_listed(s: &[u8], found: Found) -> ListedAt
 }
 
 // What a timestamp file says, with the keyids of its entries; or the refusal.
-#[derive(Drop)]
+#[derive(Clone, Copy)]
 pub struct TimestampRead {
     pub answer: u8,
     pub timestamp: Timestamp,

@@ -23,14 +23,14 @@ use state::Versions;
 // ---- The state, and what the calls give back
 
 #[repr(C)]
-#[derive(Drop)]
+#[derive(Clone, Copy)]
 pub struct State {
     trusted: state::State,
 }
 
 // What a step gives back.
 #[repr(C)]
-#[derive(Drop)]
+#[derive(Clone, Copy)]
 pub struct Step {
     pub answer: Answer,
     pub state: State,
@@ -38,7 +38,7 @@ pub struct Step {
 
 // What find gives: the image's length and digest, and how many names it compared.
 #[repr(C)]
-#[derive(Drop)]
+#[derive(Clone, Copy)]
 pub struct Image {
     pub answer: Answer,
     pub length: u64,
@@ -48,7 +48,7 @@ pub struct Image {
 
 // What key gives.
 #[repr(C)]
-#[derive(Drop)]
+#[derive(Clone, Copy)]
 pub struct PublicKey {
     pub answer: Answer,
     pub public: Id,

@@ -1,0 +1,43 @@
+-- `canonical_json::char_at` meets its contract, by the byte at `i`.
+use native.Mathlib.Omega.{arith}
+use borrow.Author.Rules.{rules}
+use Rattle.canonical_json.proofs.NameLaws as names
+use Rattle.std.proofs.Common.{rules}
+use Rattle.canonical_json.proofs.char_at.Goals as goal
+
+pub returns-then_s_i : goal.returns-then_s_i
+returns-then_s_i c =
+    let a = c.args in
+    let h = c.if-s-i.true in
+    record { is = names.char_over a.s.now a.i h; means = names.over a.s.now a.i h }
+
+pub returns-then-first_eq34 : goal.returns-then-first_eq34
+returns-then-first_eq34 c =
+    let a = c.args in
+    let h = c.if-s-i.false in
+    let e = c.if-first-eq34.true in
+    record { is = names.char_closed a.s.now a.i h e; means = names.closed a.s.now a.i h e }
+
+pub returns-then_s_j : goal.returns-then_s_j
+returns-then_s_j c =
+    let a = c.args in
+    let h = c.if-s-i.false in
+    let e = c.if-first-eq92.true in
+    let k = c.if-s-j.true in
+    record { is = names.char_lone a.s.now a.i h e k; means = names.lone a.s.now a.i h e k }
+
+pub returns-then-first_eq92 : goal.returns-then-first_eq92
+returns-then-first_eq92 c =
+    let a = c.args in
+    let h = c.if-s-i.false in
+    let e = c.if-first-eq92.true in
+    let k = c.if-s-j.false in
+    record { is = names.char_escaped a.s.now a.i h e k; means = (names.escaped a.s.now a.i h e k, omega arith, omega arith) }
+
+pub returns : goal.returns
+returns c =
+    let a = c.args in
+    let h = c.if-s-i.false in
+    let e = c.if-first-eq34.false in
+    let f = c.if-first-eq92.false in
+    record { is = names.char_byte a.s.now a.i h e f; means = (names.byte a.s.now a.i h e f, omega arith, omega arith) }

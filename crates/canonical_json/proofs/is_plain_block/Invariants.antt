@@ -1,0 +1,15 @@
+-- `canonical_json::is_plain_block` meets its contract. The invariant: where no other byte was met, those before `k` are plain.
+use mathlib.Core.Path.{◌≡◌}
+use mathlib.Core.Bool.{true}
+use Prim.Native.Nat.{◌≤◌, ◌-◌}
+use native.Mathlib.Omega.{arith}
+use borrow.Author.Rules.{rules}
+use Rattle.canonical_json.specs.Strings.{PlainRun}
+use Rattle.canonical_json.proofs.PlainLaws.{plain_more}
+use Rattle.canonical_json.proofs.is_plain_block.Given as goal
+
+abbrev pub invariant_loop-k : goal.invariant_loop-k
+invariant_loop-k l = (l.k ≤ 16) × (l.all ≡ true → PlainRun l.s l.at l.k)
+
+abbrev pub decreases_loop-k : goal.decreases_loop-k
+decreases_loop-k l = 16 - l.k

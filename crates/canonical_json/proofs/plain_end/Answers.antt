@@ -1,0 +1,18 @@
+use mathlib.Core.Path.{◌≡◌, ◌∙◌}
+use Prim.Native.Nat.{◌-◌}
+use native.Mathlib.Omega.{arith}
+use lib.ListN.{length, drop}
+use borrow.Author.Rules.{rules}
+use borrow.Author.Tests.{not-false}
+use Rattle.canonical_json.specs.Read.{end_of, read_str}
+use Rattle.canonical_json.proofs.PlainLaws.{plain-run}
+use Rattle.std.proofs.Common.{rules}
+use Rattle.canonical_json.proofs.plain_end.Goals as goal
+
+pub loop_i_preserved : goal.loop_i_preserved
+loop_i_preserved c =
+    
+    let s = c.args.s.now in
+    let room = c.if-s-i-lt-BLOCK.false in
+    c.loop-i.invariant
+    ∙ plain-run s c.loop-i.i 16 (omega (arith, room, c.loop-i-test.true)) (c.is_plain_block.ensures c.if-not-is_plain_block.false)
