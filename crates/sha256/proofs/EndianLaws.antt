@@ -30,6 +30,7 @@ length-big_endian (suc k) n = ap suc (length-big_endian k n)
 
 big_endian-bytes : (k n x : ℕ) → Memᴰ x (big_endian k n) → x < 256
 unfolding big_endian
+big_endian-bytes zero n x m = elim m [ ]
 big_endian-bytes (suc k) n x (Memᴰ.head q) = omega arith
 big_endian-bytes (suc k) n x (Memᴰ.tail m) = big_endian-bytes k n x m
 
@@ -59,4 +60,5 @@ length-word_bytes (w ∷ ws) = let e = length-append (big_endian 4 w) (word_byte
 
 pub word_bytes-bytes : (ws : List ℕ) (x : ℕ) → Memᴰ x (word_bytes ws) → x < 256
 unfolding word_bytes
+word_bytes-bytes [] x m = elim m [ ]
 word_bytes-bytes (w ∷ ws) x m = append_bytes (big_endian 4 w) (word_bytes ws) (big_endian-bytes 4 w) (word_bytes-bytes ws) x m

@@ -1,0 +1,11 @@
+-- `expand`: the first t words of the schedule are written.
+use Rattle.std.proofs.Common.{◌≡◌, ◌-◌, ◌≤◌, length, take, sym, refl, ◌∙◌, arith, length-set, take_all, rules}
+use Rattle.sha256.specs.Compress.{schedule}
+use Rattle.sha256.proofs.RoundLaws.{schedule-next}
+use Rattle.sha256.proofs.expand.Given as goal
+
+abbrev pub invariant-loop-t : goal.invariant-loop-t
+invariant-loop-t l = (16 ≤ l.t) × (l.t ≤ 64) × (length l.w ≡ 64) × (take l.t l.w ≡ schedule (take 16 l.initial.w) (l.t - 16))
+
+abbrev pub decreases-loop-t : goal.decreases-loop-t
+decreases-loop-t l = 64 - l.t

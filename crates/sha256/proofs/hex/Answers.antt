@@ -1,0 +1,21 @@
+use Rattle.std.proofs.Common.{◌≡◌, ◌-◌, ◌*◌, ◌≤◌, ◌++◌, length, take, drop, sym, refl, ◌∙◌, arith, length-set, rules}
+use Rattle.base.specs.Hex.{hex_of}
+use Rattle.base.proofs.HexLaws.{hex_of-next, hex_of-end}
+use Rattle.std.proofs.Common.{rules}
+use Rattle.sha256.proofs.hex.Goals as goal
+
+pub loop-i-init : goal.loop-i-init
+loop-i-init c = (omega arith, refl, refl)
+
+pub loop-i-preserved : goal.loop-i-preserved
+loop-i-preserved c =
+    let l = c.loop-i in (
+      omega arith,
+      simp length-set (omega arith),
+      l.invariant.2 ∙ hex_of-next _ l.out l.i _ _ (omega arith) (omega arith) c.high_digit.ensures c.low_digit.ensures,
+    )
+
+pub returns : goal.returns
+returns c =
+    let l = c.loop-i in
+    sym (l.invariant.2 ∙ hex_of-end _ l.out l.i (omega arith) (omega arith))

@@ -1,0 +1,8 @@
+-- `word_byte`: a byte by its place among the bits.
+use Rattle.std.proofs.Common.{arith, rules}
+use Rattle.sha256.proofs.EndianLaws.{byte_at}
+use Rattle.std.proofs.Common.{rules}
+use Rattle.sha256.proofs.word_byte.Goals as goal
+
+pub returns : goal.returns
+returns c = byte_at 4 _ _ _ (omega arith)
