@@ -49,22 +49,22 @@ same-exactly a b = (same_true a b, λ e. rw (← e, same_self a))
 -- ## Elements
 
 pub any_false : {A : Type 0} (p : A → Bool) (xs : List A) → (any p xs ≡ false) ↔ ((x : A) → Memᴰ x xs → p x ≡ false)
-any_false {A} p xs = (there xs, back xs)
+any_false {A} p xs = (λ e x. there x xs e, back xs)
   where
-    there : (xs : List A) → any p xs ≡ false → (x : A) → Memᴰ x xs → p x ≡ false
-    there xs e x (Memᴰ.head {x = y} {xs = ys} q) = rw q (neither (p y) (any p ys) e).0
-    there xs e x (Memᴰ.tail {x = y} {xs = ys} m) = there ys (neither (p y) (any p ys) e).1 x m
+    there : (x : A) (xs : List A) → any p xs ≡ false → Memᴰ x xs → p x ≡ false
+    there x xs e (Memᴰ.head {x = y} {xs = ys} q) = rw q (neither (p y) (any p ys) e).0
+    there x xs e (Memᴰ.tail {x = y} {xs = ys} m) = there x ys (neither (p y) (any p ys) e).1 m
 
     back : (xs : List A) → ((x : A) → Memᴰ x xs → p x ≡ false) → any p xs ≡ false
     back [] f = refl
     back (x ∷ xs) f = rw (f x (Memᴰ.head refl)) (back xs (λ y m. f y (Memᴰ.tail m)))
 
 pub all_true : (p : Bytes → Bool) (xs : List Bytes) → (all_of p xs ≡ true) ↔ ((x : Bytes) → Memᴰ x xs → p x ≡ true)
-all_true p xs = (there xs, back xs)
+all_true p xs = (λ e x. there x xs e, back xs)
   where
-    there : (xs : List Bytes) → all_of p xs ≡ true → (x : Bytes) → Memᴰ x xs → p x ≡ true
-    there xs e x (Memᴰ.head {x = y} {xs = ys} q) = rw q (both (p y) (all_of p ys) e).0
-    there xs e x (Memᴰ.tail {x = y} {xs = ys} m) = there ys (both (p y) (all_of p ys) e).1 x m
+    there : (x : Bytes) (xs : List Bytes) → all_of p xs ≡ true → Memᴰ x xs → p x ≡ true
+    there x xs e (Memᴰ.head {x = y} {xs = ys} q) = rw q (both (p y) (all_of p ys) e).0
+    there x xs e (Memᴰ.tail {x = y} {xs = ys} m) = there x ys (both (p y) (all_of p ys) e).1 m
 
     back : (xs : List Bytes) → ((x : Bytes) → Memᴰ x xs → p x ≡ true) → all_of p xs ≡ true
     back [] f = refl
