@@ -26,13 +26,13 @@ use Rattle.rules.proofs.ReadingLaws.{Formed, Outcome, unformed, formed, outcome}
 use Rattle.rules.proofs.TableLaws.{rising, fault-numbers}
 
 -- no line has a number below m
-none_below : (m : ℕ) (rows : List Refusal) → rising m rows ≡ true → (n : ℕ) (b : Bool) → Memᴰ (n when b) rows → m ≤ n
-none_below m rows t n b (Memᴰ.head {x = k when c} {xs = rest} e) =
+none_below : (n : ℕ) (b : Bool) (m : ℕ) (rows : List Refusal) → rising m rows ≡ true → Memᴰ (n when b) rows → m ≤ n
+none_below n b m rows t (Memᴰ.head {x = k when c} {xs = rest} e) =
     let k-is : n ≡ k = cc in
     omega (arith, leb-true m k (both (leb m k) (rising k rest) t).0)
-none_below m rows t n b (Memᴰ.tail {x = k when c} {xs = rest} i) =
+none_below n b m rows t (Memᴰ.tail {x = k when c} {xs = rest} i) =
     let w = both (leb m k) (rising k rest) t in
-    le_trans (leb-true m k w.0) (none_below k rest w.1 n b i)
+    le_trans (leb-true m k w.0) (none_below n b k rest w.1 i)
 
 -- a line that does not hold changes nothing
 passed_over : {k n : ℕ} {rest : List Refusal} → LowestOf rest n → LowestOf (k when false ∷ rest) n
@@ -53,7 +53,7 @@ lowest m (k when true ∷ rest) t = holds (Memᴰ.head refl) least
   where
     least : (n : ℕ) → Memᴰ (n when true) (k when true ∷ rest) → k ≤ n
     least n (Memᴰ.head e) = let k-is : n ≡ k = cc in omega arith
-    least n (Memᴰ.tail i) = none_below k rest (both (leb m k) (rising k rest) t).1 n true i
+    least n (Memᴰ.tail i) = none_below n true k rest (both (leb m k) (rising k rest) t).1 i
 lowest m (k when false ∷ rest) t = passed_over (lowest k rest (both (leb m k) (rising k rest) t).1)
 
 judgement : {A : Type 0} (rd : Read A) (table : A → List Bytes → List Refusal) → ((a : A) (es : List Bytes) → rising 5 (table a es) ≡ true)
