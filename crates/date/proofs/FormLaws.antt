@@ -74,9 +74,9 @@ digit-there (f ∷ fs) (b ∷ s) (suc i) h e =
     record { within = omega (arith, w.within); low = w.low; high = w.high }
 
 -- r is the answer of a test for the form that passed
-pub digits-at : (s : Bytes) {r : Bool} → r ≡ has_form form s → not r ≡ false → (i : ℕ) → get_or form i 0 ≡ 48 → get_or form (i + 1) 0 ≡ 48 → DigitsAt s i
+pub digits-at : (s : Bytes) {r : Bool} → r ≡ has_form form s → r ≡ true → (i : ℕ) → get_or form i 0 ≡ 48 → get_or form (i + 1) 0 ≡ 48 → DigitsAt s i
 digits-at s {r} h k i e e' =
-    let w = sym h ∙ not-false r k in
+    let w = sym h ∙ k in
     let a = digit-there form s i w e in
     let b = digit-there form s (i + 1) w e' in
     record { within = b.within; low = a.low; high = a.high; low-next = b.low; high-next = b.high }

@@ -36,7 +36,7 @@ pub overflow_mul-result : goal.overflow_mul-result
 overflow_mul-result c = let a = c.args in fits (year a.year a.month a.day a.hour a.minute a.second c.requires c.year_start.ensures)
 
 pub overflow_add-result : goal.overflow_add-result
-overflow_add-result c = let a = c.args in fits (all a.year a.month a.day a.hour a.minute a.second c.requires c.year_start.ensures _ c.months_before.ensures.0 c.months_before.ensures.1)
+overflow_add-result c = let a = c.args in fits (all a.year a.month a.day a.hour a.minute a.second c.requires c.year_start.ensures _ c.months_before.ensures.value c.months_before.ensures.upper_bound)
 
 pub returns : goal.returns
-returns c = let a = c.args in total a.year a.month a.day a.hour a.minute a.second c.requires c.year_start.ensures _ c.months_before.ensures.0 c.months_before.ensures.1
+returns c = let a = c.args in total a.year a.month a.day a.hour a.minute a.second c.requires c.year_start.ensures _ c.months_before.ensures.value c.months_before.ensures.upper_bound

@@ -31,4 +31,4 @@ loop-k-preserved c =
 )
 
 pub returns : goal.returns
-returns c = let e : c.loop-k.k ≡ c.args.month = omega arith in (rw e at c.loop-k.invariant.1.1.0, omega arith)
+returns c = let e : c.loop-k.k ≡ c.args.month = omega arith in record { value = rw e at c.loop-k.invariant.1.1.0; upper_bound = omega arith }

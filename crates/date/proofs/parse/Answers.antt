@@ -33,5 +33,4 @@ two_digits-second-requires c = digits-at _ c.has_form.ensures c.if-not-has_form.
 
 pub returns : goal.returns
 returns c =
-    
     cc (date-form c.args.s.now (sym c.has_form.ensures ∙ c.if-not-has_form.false))
