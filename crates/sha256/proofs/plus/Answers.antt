@@ -6,4 +6,4 @@ use Rattle.sha256.proofs.plus.Goals as goal
 
 pub returns : goal.returns
 unfolding add
-returns c = c.wrapping_add_u32.ensures
+returns c = c.wrapping_add_u32.ensures.value
