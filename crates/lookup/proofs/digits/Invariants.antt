@@ -1,0 +1,16 @@
+-- `digits` meets its contract. The invariant: n is at most hi, and with the digits left it is the number.
+use mathlib.Core.Path.{◌≡◌, refl, sym, ap, ◌∙◌}
+use Prim.Native.Nat.{ℕ, ◌≤◌, ◌+◌, ◌-◌, ◌*◌}
+use native.Mathlib.Omega.{arith}
+use borrow.Author.Rules.{rules}
+use lib.ListN.{length, drop, get_or}
+use Rattle.base.proofs.ByteLaws.{digit, digit_low, digit-high}
+use Rattle.lookup.specs.Leaves.{leading}
+use Rattle.lookup.proofs.NumberLaws as numbers
+use Rattle.lookup.proofs.digits.Given as goal
+
+abbrev pub invariant-loop-i : goal.invariant-loop-i
+invariant-loop-i l = (l.n ≤ l.hi) × (leading 0 (drop l.at l.s) ≡ leading l.n (drop l.i l.s))
+
+abbrev pub decreases-loop-i : goal.decreases-loop-i
+decreases-loop-i l = length l.s - l.i
