@@ -4,12 +4,9 @@ use Rattle.base.specs.Window.{run, byte_at, window}
 use Rattle.rules.specs.Asked.{no_entry}
 use Rattle.records.specs.View.{view_id}
 use Rattle.inspect.specs.View.{view_entry_read}
-use Rattle.inspect.proofs.no_entry.Statement.{statement}
-use Rattle.inspect.proofs.no_entry.Tie as tie
+use Rattle.std.proofs.Common.{arith, rules}
+use Rattle.inspect.proofs.no_entry.Goals as goal
 
-returns : tie.Need-returns
+pub returns : goal.returns
 unfolding view_entry_read no_entry view_id window run byte_at
 returns c = refl
-
-pub no-entry-spec : {M : Type 1} → statement M
-no-entry-spec = tie.close (tie.spec returns)

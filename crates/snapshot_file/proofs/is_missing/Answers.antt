@@ -1,0 +1,11 @@
+-- `is_missing` meets its contract.
+use borrow.Author.Rules.{rules}
+use mathlib.Core.Path.{refl}
+use Rattle.std.proofs.Common.{arith, rules}
+use Rattle.snapshot_file.proofs.is_missing.Goals as goal
+
+pub returns-in-Nothing : goal.returns-in-Nothing
+returns-in-Nothing c = rw c.in-Nothing.is refl
+
+pub returns-in-At : goal.returns-in-At
+returns-in-At c = rw c.in-At.is refl
