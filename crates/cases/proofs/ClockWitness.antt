@@ -49,7 +49,7 @@ until_goes =
     step (timestamp_goes _ readings.timestamp5 refl)
     (step (snapshot_goes _ readings.snapshot7 refl)
     (step (targets_goes _ readings.targets3 refl)
-    (step (find_goes _ readings.targets3 (as_listed (digest_of (targets_text "3" image_text)) _ refl))
+    (step (find_goes {s = up (pos 1000)} _ readings.targets3 (as_listed _ (digest_of (targets_text "3" image_text)) _ refl refl))
     (step (cycle_goes refl)
     stop))))
 
