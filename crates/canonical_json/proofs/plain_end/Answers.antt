@@ -9,9 +9,8 @@ use Rattle.canonical_json.proofs.PlainLaws.{plain-run}
 use Rattle.std.proofs.Common.{rules}
 use Rattle.canonical_json.proofs.plain_end.Goals as goal
 
-pub loop_i_preserved : goal.loop_i_preserved
-loop_i_preserved c =
-    
+pub loop-i-preserved : goal.loop-i-preserved
+loop-i-preserved c =
     let s = c.args.s.now in
     let room = c.if-s-i-lt-BLOCK.false in
     c.loop-i.invariant
