@@ -1,12 +1,12 @@
 -- The form of a date's text: as a test, one turn of a loop that compares, and the digits that it gives.
 use mathlib.Core.Path.{◌≡◌, refl, sym, ◌∙◌, ap}
 use mathlib.Core.List.{[], ◌∷◌}
-use mathlib.Core.Bool.{Bool, true, false, not, and-false}
+use mathlib.Core.Bool.{Bool, true, false, and-false}
 use Prim.Native.Nat.{ℕ, zero, suc, ◌≤◌, ◌<◌, ◌+◌}
 use lib.Dec.{eqb}
 use lib.ListN.{length, drop, get_or}
 use native.Mathlib.Omega.{arith}
-use borrow.Author.Tests.{eq-eqb, ne_eqb, not-false}
+use borrow.Author.Tests.{eq-eqb, ne_eqb}
 use Rattle.base.specs.Bytes.{Bytes, is_digit}
 use Rattle.base.proofs.TestLaws.{never, both}
 use Rattle.base.proofs.PlaceLaws.{at-cons, at-end}

@@ -1,19 +1,13 @@
 -- The readers of values, arrays, objects and members, which call one another, meet their contracts: each way out is one law.
-use mathlib.Core.Path.{◌≡◌, sym, ◌∙◌}
+use mathlib.Core.Path.{sym, ◌∙◌}
 use mathlib.Core.Option.{none}
-use Prim.Native.Nat.{ℕ, ◌+◌, ◌-◌, ◌*◌, ◌<◌}
 use native.Mathlib.Omega.{arith}
-use borrow.Author.Rules.{rules}
-use borrow.Author.Tests.{not-true, not-false}
-use lib.ListN.{length, drop}
-use Rattle.canonical_json.specs.Read.{end_of, read}
-use Rattle.canonical_json.specs.Read.{array as array_of, object as object_of}
+use Rattle.canonical_json.specs.Read.{read}
 use Rattle.canonical_json.specs.Names.{last_of}
 use Rattle.canonical_json.proofs.Loops as loops
 use Rattle.canonical_json.proofs.Loops.{arrays, objects, elements_of}
 use Rattle.canonical_json.proofs.Members as members
 use Rattle.canonical_json.proofs.Values as values
-use Rattle.base.proofs.ByteLaws.{digit}
 use Rattle.canonical_json.proofs.+array_object_pair_value.Goals as goal
 
 -- ## `array`

@@ -1,8 +1,6 @@
 -- `canonical_json::char_at` meets its contract, by the byte at `i`.
 use native.Mathlib.Omega.{arith}
-use borrow.Author.Rules.{rules}
 use Rattle.canonical_json.proofs.NameLaws as names
-use Rattle.std.proofs.Common.{rules}
 use Rattle.canonical_json.proofs.char_at.Goals as goal
 
 pub returns-then-s-i : goal.returns-then-s-i

@@ -3,10 +3,8 @@ use mathlib.Core.Path.{sym, ◌∙◌}
 use Prim.Native.Nat.{◌+◌, ◌<◌}
 use native.Mathlib.Omega.{arith}
 use lib.ListN.{drop, get_or}
-use borrow.Author.Rules.{rules}
 use Rattle.canonical_json.specs.Read.{esc, chars, read_str}
 use Rattle.canonical_json.proofs.Chars as strings
-use Rattle.std.proofs.Common.{rules}
 use Rattle.canonical_json.proofs.char_end.Goals as goal
 
 pub returns-then-b-eq92 : goal.returns-then-b-eq92

@@ -1,9 +1,7 @@
 -- `canonical_json::escape_end` meets its contract, by the byte after the backslash.
 use mathlib.Core.Path.{refl}
 use native.Mathlib.Omega.{arith}
-use borrow.Author.Rules.{rules}
 use Rattle.canonical_json.proofs.Chars as strings
-use Rattle.std.proofs.Common.{rules}
 use Rattle.canonical_json.proofs.escape_end.Goals as goal
 
 pub returns-then-s-at : goal.returns-then-s-at

@@ -1,9 +1,7 @@
 -- `canonical_json::is_canonical` meets its contract: soundness and completeness of the reader.
 use mathlib.Core.Path.{sym, ◌∙◌}
-use borrow.Author.Rules.{rules}
 use Rattle.canonical_json.specs.Json.{max_depth}
 use Rattle.canonical_json.proofs.Canonical.{verdict-no, verdict-end}
-use Rattle.std.proofs.Common.{arith, rules}
 use Rattle.canonical_json.proofs.is_canonical.Goals as goal
 
 pub returns-in-No : goal.returns-in-No

@@ -1,11 +1,5 @@
-use mathlib.Core.Path.{◌≡◌}
-use mathlib.Core.Bool.{true}
-use Prim.Native.Nat.{◌≤◌, ◌-◌}
 use native.Mathlib.Omega.{arith}
-use borrow.Author.Rules.{rules}
-use Rattle.canonical_json.specs.Strings.{PlainRun}
 use Rattle.canonical_json.proofs.PlainLaws.{plain_more}
-use Rattle.std.proofs.Common.{rules}
 use Rattle.canonical_json.proofs.is_plain_block.Goals as goal
 
 pub loop-k-init : goal.loop-k-init

@@ -2,10 +2,7 @@
 use mathlib.Core.Path.{◌≡◌}
 use mathlib.Core.Bool.{true}
 use Prim.Native.Nat.{◌≤◌, ◌-◌}
-use native.Mathlib.Omega.{arith}
-use borrow.Author.Rules.{rules}
 use Rattle.canonical_json.specs.Strings.{PlainRun}
-use Rattle.canonical_json.proofs.PlainLaws.{plain_more}
 use Rattle.canonical_json.proofs.is_plain_block.Given as goal
 
 abbrev pub invariant-loop-k : goal.invariant-loop-k

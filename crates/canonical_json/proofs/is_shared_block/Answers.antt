@@ -1,11 +1,5 @@
-use borrow.Author.Rules.{rules}
-use mathlib.Core.Path.{◌≡◌}
-use mathlib.Core.Bool.{true}
-use Prim.Native.Nat.{◌≤◌, ◌-◌}
 use native.Mathlib.Omega.{arith}
-use Rattle.canonical_json.specs.Strings.{SharedRun}
 use Rattle.canonical_json.proofs.SharedLaws.{shared-more}
-use Rattle.std.proofs.Common.{rules}
 use Rattle.canonical_json.proofs.is_shared_block.Goals as goal
 
 pub loop-k-init : goal.loop-k-init

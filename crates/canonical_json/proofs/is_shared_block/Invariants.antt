@@ -1,11 +1,8 @@
 -- `is_shared_block` meets its contract. The invariant: where no other byte was met, those before `k` are shared.
-use borrow.Author.Rules.{rules}
 use mathlib.Core.Path.{◌≡◌}
 use mathlib.Core.Bool.{true}
 use Prim.Native.Nat.{◌≤◌, ◌-◌}
-use native.Mathlib.Omega.{arith}
 use Rattle.canonical_json.specs.Strings.{SharedRun}
-use Rattle.canonical_json.proofs.SharedLaws.{shared-more}
 use Rattle.canonical_json.proofs.is_shared_block.Given as goal
 
 abbrev pub invariant-loop-k : goal.invariant-loop-k

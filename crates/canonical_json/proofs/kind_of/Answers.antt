@@ -4,7 +4,6 @@ use native.Mathlib.Omega.{arith}
 use Rattle.base.proofs.ByteLaws.{digit, digit_low, digit-high}
 use Rattle.canonical_json.specs.Read.{kind_of}
 use Rattle.canonical_json.proofs.KindLaws.{digit-kind, other-kind}
-use Rattle.std.proofs.Common.{rules}
 use Rattle.canonical_json.proofs.kind_of.Goals as goal
 
 pub returns-in-34 : goal.returns-in-34

@@ -3,7 +3,6 @@ use mathlib.Core.Path.{refl, sym, ap}
 use native.Mathlib.Omega.{arith}
 use Rattle.canonical_json.specs.Lead.{lead_of}
 use Rattle.canonical_json.proofs.Rows.{found}
-use Rattle.std.proofs.Common.{rules}
 use Rattle.canonical_json.proofs.lead.Goals as goal
 
 pub returns-in-224 : goal.returns-in-224

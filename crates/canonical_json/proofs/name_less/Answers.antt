@@ -1,14 +1,10 @@
-use mathlib.Core.Path.{◌≡◌, sym, ◌∙◌}
-use Prim.Native.Nat.{◌-◌}
+use mathlib.Core.Path.{sym, ◌∙◌}
 use native.Mathlib.Omega.{arith}
-use lib.ListN.{length, drop}
-use borrow.Author.Rules.{rules}
-use Rattle.base.specs.Bytes.{less}
+use lib.ListN.{drop}
 use Rattle.canonical_json.specs.Read.{raw}
 use Rattle.canonical_json.specs.Names.{CharAt}
 use Rattle.canonical_json.specs.declared.Char.TheVariants.{Close, Byte}
 use Rattle.canonical_json.proofs.NameLaws as names
-use Rattle.std.proofs.Common.{rules}
 use Rattle.canonical_json.proofs.name_less.Goals as goal
 
 pub returns-in-Close : goal.returns-in-Close

@@ -1,12 +1,8 @@
-use mathlib.Core.Path.{◌≡◌, sym, ◌∙◌}
-use Prim.Native.Nat.{◌≤◌, ◌-◌}
+use mathlib.Core.Path.{sym, ◌∙◌}
 use native.Mathlib.Omega.{arith}
-use lib.ListN.{length, drop, get_or}
-use borrow.Author.Rules.{rules}
+use lib.ListN.{get_or}
 use Rattle.base.proofs.ByteLaws.{digit, digit_low, digit-high}
-use Rattle.canonical_json.specs.Read.{end_of, digits, number as number_of}
 use Rattle.canonical_json.proofs.Numbers as numbers
-use Rattle.std.proofs.Common.{rules}
 use Rattle.canonical_json.proofs.number.Goals as goal
 
 pub returns-then-s-at : goal.returns-then-s-at

@@ -1,12 +1,8 @@
 -- `canonical_json::number` meets its contract. The invariant: the number ends where the digits from `i` on end.
-use mathlib.Core.Path.{◌≡◌, sym, ◌∙◌}
+use mathlib.Core.Path.{◌≡◌}
 use Prim.Native.Nat.{◌≤◌, ◌-◌}
-use native.Mathlib.Omega.{arith}
-use lib.ListN.{length, drop, get_or}
-use borrow.Author.Rules.{rules}
-use Rattle.base.proofs.ByteLaws.{digit, digit_low, digit-high}
+use lib.ListN.{length, drop}
 use Rattle.canonical_json.specs.Read.{end_of, digits, number as number_of}
-use Rattle.canonical_json.proofs.Numbers as numbers
 use Rattle.canonical_json.proofs.number.Given as goal
 
 abbrev pub invariant-loop-i : goal.invariant-loop-i

@@ -1,12 +1,6 @@
-use mathlib.Core.Path.{◌≡◌, ◌∙◌}
-use Prim.Native.Nat.{◌-◌}
+use mathlib.Core.Path.{◌∙◌}
 use native.Mathlib.Omega.{arith}
-use lib.ListN.{length, drop}
-use borrow.Author.Rules.{rules}
-use borrow.Author.Tests.{not-false}
-use Rattle.canonical_json.specs.Read.{end_of, read_str}
 use Rattle.canonical_json.proofs.PlainLaws.{plain-run}
-use Rattle.std.proofs.Common.{rules}
 use Rattle.canonical_json.proofs.plain_end.Goals as goal
 
 pub loop-i-preserved : goal.loop-i-preserved

@@ -1,12 +1,8 @@
 -- `canonical_json::plain_end` meets its contract. The invariant: the string ends where it ends when it is read from `i` on.
-use mathlib.Core.Path.{◌≡◌, ◌∙◌}
+use mathlib.Core.Path.{◌≡◌}
 use Prim.Native.Nat.{◌-◌}
-use native.Mathlib.Omega.{arith}
 use lib.ListN.{length, drop}
-use borrow.Author.Rules.{rules}
-use borrow.Author.Tests.{not-false}
 use Rattle.canonical_json.specs.Read.{end_of, read_str}
-use Rattle.canonical_json.proofs.PlainLaws.{plain-run}
 use Rattle.canonical_json.proofs.plain_end.Given as goal
 
 abbrev pub invariant-loop-i : goal.invariant-loop-i

@@ -1,13 +1,6 @@
-use borrow.Author.Rules.{rules}
-use mathlib.Core.Path.{◌≡◌, ◌∙◌}
-use Prim.Native.Nat.{◌-◌}
+use mathlib.Core.Path.{◌∙◌}
 use native.Mathlib.Omega.{arith}
-use lib.ListN.{length, drop}
-use borrow.Author.Tests.{not-false}
-use Rattle.base.specs.Bytes.{less}
-use Rattle.canonical_json.specs.Read.{raw}
 use Rattle.canonical_json.proofs.SharedLaws.{shared-run}
-use Rattle.std.proofs.Common.{rules}
 use Rattle.canonical_json.proofs.shared_end.Goals as goal
 
 pub returns-then-s-i-lt-BLOCK : goal.returns-then-s-i-lt-BLOCK

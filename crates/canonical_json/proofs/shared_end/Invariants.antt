@@ -1,13 +1,9 @@
 -- `shared_end` meets its contract. The invariant: the names compare as their rests from `i` and `j` on.
-use borrow.Author.Rules.{rules}
-use mathlib.Core.Path.{◌≡◌, ◌∙◌}
+use mathlib.Core.Path.{◌≡◌}
 use Prim.Native.Nat.{◌-◌}
-use native.Mathlib.Omega.{arith}
 use lib.ListN.{length, drop}
-use borrow.Author.Tests.{not-false}
 use Rattle.base.specs.Bytes.{less}
 use Rattle.canonical_json.specs.Read.{raw}
-use Rattle.canonical_json.proofs.SharedLaws.{shared-run}
 use Rattle.canonical_json.proofs.shared_end.Given as goal
 
 abbrev pub invariant-loop-i : goal.invariant-loop-i

@@ -1,13 +1,11 @@
-use mathlib.Core.Path.{◌≡◌, sym, ◌∙◌}
-use Prim.Native.Nat.{◌+◌, ◌-◌}
+use mathlib.Core.Path.{sym, ◌∙◌}
+use Prim.Native.Nat.{◌+◌}
 use native.Mathlib.Omega.{arith}
-use lib.ListN.{length, drop}
-use borrow.Author.Rules.{rules}
-use Rattle.canonical_json.specs.Read.{end_of, read_str}
+use lib.ListN.{drop}
+use Rattle.canonical_json.specs.Read.{read_str}
 use Rattle.canonical_json.specs.Strings.{Skips}
 use Rattle.canonical_json.specs.declared.Skip.TheVariants.{No, End}
 use Rattle.canonical_json.proofs.Chars as strings
-use Rattle.std.proofs.Common.{rules}
 use Rattle.canonical_json.proofs.string.Goals as goal
 
 pub loop-i-init : goal.loop-i-init

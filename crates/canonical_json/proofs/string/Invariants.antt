@@ -1,13 +1,8 @@
 -- `canonical_json::string` meets its contract. The invariant: the string ends where it ends when it is read from `i` on.
-use mathlib.Core.Path.{◌≡◌, sym, ◌∙◌}
-use Prim.Native.Nat.{◌+◌, ◌-◌}
-use native.Mathlib.Omega.{arith}
+use mathlib.Core.Path.{◌≡◌}
+use Prim.Native.Nat.{◌-◌}
 use lib.ListN.{length, drop}
-use borrow.Author.Rules.{rules}
 use Rattle.canonical_json.specs.Read.{end_of, read_str}
-use Rattle.canonical_json.specs.Strings.{Skips}
-use Rattle.canonical_json.specs.declared.Skip.TheVariants.{No, End}
-use Rattle.canonical_json.proofs.Chars as strings
 use Rattle.canonical_json.proofs.string.Given as goal
 
 abbrev pub invariant-loop-i : goal.invariant-loop-i

@@ -1,11 +1,6 @@
-use mathlib.Core.Path.{◌≡◌, ◌∙◌}
-use Prim.Native.Nat.{◌≤◌}
+use mathlib.Core.Path.{◌∙◌}
 use native.Mathlib.Omega.{arith}
-use lib.ListN.{length, drop}
-use borrow.Author.Rules.{rules}
-use Rattle.canonical_json.specs.Read.{end_of, chars}
 use Rattle.canonical_json.proofs.Chars as strings
-use Rattle.std.proofs.Common.{rules}
 use Rattle.canonical_json.proofs.tail_end.Goals as goal
 
 pub returns-then-s-i : goal.returns-then-s-i

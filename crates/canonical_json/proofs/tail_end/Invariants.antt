@@ -1,11 +1,8 @@
 -- `canonical_json::tail_end` meets its contract: each turn takes one byte of the character.
-use mathlib.Core.Path.{◌≡◌, ◌∙◌}
+use mathlib.Core.Path.{◌≡◌}
 use Prim.Native.Nat.{◌≤◌}
-use native.Mathlib.Omega.{arith}
 use lib.ListN.{length, drop}
-use borrow.Author.Rules.{rules}
 use Rattle.canonical_json.specs.Read.{end_of, chars}
-use Rattle.canonical_json.proofs.Chars as strings
 use Rattle.canonical_json.proofs.tail_end.Given as goal
 
 abbrev pub invariant-loop-left : goal.invariant-loop-left

@@ -1,11 +1,6 @@
-use mathlib.Core.Path.{◌≡◌, sym, ◌∙◌}
-use Prim.Native.Nat.{◌≤◌, ◌-◌}
+use mathlib.Core.Path.{sym, ◌∙◌}
 use native.Mathlib.Omega.{arith}
-use lib.ListN.{length, drop}
-use borrow.Author.Rules.{rules}
-use Rattle.canonical_json.specs.Read.{end_of, word}
 use Rattle.canonical_json.proofs.Words as words
-use Rattle.std.proofs.Common.{rules}
 use Rattle.canonical_json.proofs.word.Goals as goal
 
 pub returns-then-s-i : goal.returns-then-s-i

@@ -1,11 +1,8 @@
 -- `canonical_json::word` meets its contract. The invariant: the word stands at `at` where its rest stands at `i`.
-use mathlib.Core.Path.{◌≡◌, sym, ◌∙◌}
+use mathlib.Core.Path.{◌≡◌}
 use Prim.Native.Nat.{◌≤◌, ◌-◌}
-use native.Mathlib.Omega.{arith}
 use lib.ListN.{length, drop}
-use borrow.Author.Rules.{rules}
 use Rattle.canonical_json.specs.Read.{end_of, word}
-use Rattle.canonical_json.proofs.Words as words
 use Rattle.canonical_json.proofs.word.Given as goal
 
 abbrev pub invariant-loop-k : goal.invariant-loop-k

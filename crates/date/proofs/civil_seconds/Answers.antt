@@ -9,8 +9,6 @@ use Rattle.date.specs.Calendar.{years_before, first_months, day_number, second_n
 use Rattle.date.specs.Parts.{Civil}
 use Rattle.date.proofs.CalendarLaws.{years-closed, epoch-days, epoch-seconds}
 use Rattle.date.proofs.Differences.{W, Fits, fits, bits, nat, plus, times}
-use borrow.Author.Rules.{rules}
-use Rattle.std.proofs.Common.{rules}
 use Rattle.date.proofs.civil_seconds.Goals as goal
 
 module _ (y m d h mi s : ℕ) (p : Civil y m d h mi s) {z : ℤ} (e : z ≡ pos (years_before y) -ℤ pos (years_before 1970)) where

@@ -1,4 +1,4 @@
-use Rattle.std.proofs.Common.{◌≡◌, ◌+◌, ◌-◌, ◌≤◌, length, drop, sym, refl, ap, ◌∙◌, arith, rules}
+use Rattle.std.proofs.Common.{◌≡◌, ◌+◌, length, drop, sym, refl, ap, ◌∙◌, arith, rules}
 use Rattle.sha256.specs.Constants.{constants}
 use Rattle.sha256.specs.Compress.{rounds}
 use Rattle.sha256.specs.declared.Hash.{Hash}

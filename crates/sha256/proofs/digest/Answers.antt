@@ -1,8 +1,7 @@
 -- `digest`: the whole blocks, then the rest of the padded message.
-use Rattle.std.proofs.Common.{◌≡◌, ◌+◌, ◌-◌, ◌%◌, length, ◌∙◌, arith, rules}
+use Rattle.std.proofs.Common.{◌≡◌, ◌+◌, ◌-◌, ◌%◌, length, ◌∙◌, arith}
 use Rattle.sha256.specs.Message.{zeros}
 use Rattle.sha256.proofs.DigestLaws.{digest-parts}
-use Rattle.std.proofs.Common.{rules}
 use Rattle.sha256.proofs.digest.Goals as goal
 
 pub returns : goal.returns

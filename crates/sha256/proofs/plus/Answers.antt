@@ -1,7 +1,5 @@
 -- `plus`: by definition.
 use Rattle.sha256.specs.Words.{add}
-use Rattle.std.proofs.Common.{rules}
-use Rattle.std.proofs.Common.{arith, rules}
 use Rattle.sha256.proofs.plus.Goals as goal
 
 pub returns : goal.returns

@@ -1,7 +1,6 @@
 -- `tail_size`: one block where the length has room in it, or two.
-use Rattle.std.proofs.Common.{arith, rules}
+use Rattle.std.proofs.Common.{arith}
 use Rattle.sha256.proofs.PaddingLaws.{tail_short, tail-long}
-use Rattle.std.proofs.Common.{rules}
 use Rattle.sha256.proofs.tail_size.Goals as goal
 
 pub returns-then-n-lt-ROOM : goal.returns-then-n-lt-ROOM

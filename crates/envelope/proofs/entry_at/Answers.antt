@@ -1,0 +1,7 @@
+-- `entry_at` meets its contract.
+use borrow.Author.Rules.{rules}
+use Rattle.std.proofs.Common.{arith, rules}
+use Rattle.envelope.proofs.entry_at.Goals as goal
+
+pub returns-then-plain : goal.returns-then-plain
+returns-then-plain c = c.plain_entry-plain.ensures c.if-plain.true
