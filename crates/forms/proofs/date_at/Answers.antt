@@ -1,9 +1,7 @@
 -- `date_at` meets its contract.
-use borrow.Author.Rules.{rules}
 use Rattle.forms.proofs.StepLaws.{text-none, text_at}
 use Rattle.rules.specs.Take.{date}
 use mathlib.Core.Path.{refl}
-use Rattle.std.proofs.Common.{arith, rules}
 use Rattle.forms.proofs.date_at.Goals as goal
 
 pub returns-in-Nothing : goal.returns-in-Nothing

@@ -1,8 +1,6 @@
 -- `date_field` meets its contract.
-use borrow.Author.Rules.{rules}
 use mathlib.Core.Path.{refl}
 use Rattle.forms.proofs.StepLaws.{must-none, must-at}
-use Rattle.std.proofs.Common.{arith, rules}
 use Rattle.forms.proofs.date_field.Goals as goal
 
 pub returns-in-Nothing : goal.returns-in-Nothing

@@ -1,9 +1,6 @@
 -- `date_in` meets its contract.
-use borrow.Author.Rules.{rules}
 use Rattle.forms.proofs.TextLaws.{date-not, date-is}
-use borrow.Author.Tests.{not-true, not-false}
 use mathlib.Core.Path.{refl, ◌∙◌}
-use Rattle.std.proofs.Common.{arith, rules}
 use Rattle.forms.proofs.date_in.Goals as goal
 
 pub returns-then-not-fill_text : goal.returns-then-not-fill_text

@@ -1,7 +1,5 @@
 -- `digest_at` meets its contract.
-use borrow.Author.Rules.{rules}
 use Rattle.rules.specs.Forms.{sha256}
-use Rattle.std.proofs.Common.{arith, rules}
 use Rattle.forms.proofs.digest_at.Goals as goal
 
 pub returns : goal.returns

@@ -1,11 +1,9 @@
 -- `digest_may` meets its contract.
-use borrow.Author.Rules.{rules}
 use mathlib.Core.Path.{refl}
 use Rattle.canonical_json.specs.Fields.{keep}
 use Rattle.forms.specs.View.{view_may_id}
 use Rattle.forms.proofs.StepLaws.{may_none, may_at}
 use Rattle.forms.proofs.ListedLaws.{digest-given}
-use Rattle.std.proofs.Common.{arith, rules}
 use Rattle.forms.proofs.digest_may.Goals as goal
 
 pub returns-in-Nothing : goal.returns-in-Nothing

@@ -1,13 +1,10 @@
 -- `digits_at`: the test says of a string what the form says.
-use borrow.Author.Rules.{rules}
 use mathlib.Core.Path.{refl, sym, ◌∙◌}
-use borrow.Author.Tests.{not-true, not-false}
 use Rattle.lookup.proofs.StringLaws.{string-text}
 use Rattle.rules.specs.Take.{hex}
 use Rattle.forms.specs.View.{undone_at}
 use Rattle.forms.proofs.StepLaws.{text-none, text_at}
 use Rattle.forms.proofs.TextLaws.{digits-is, digits_standing, unhex-no, unhex_yes}
-use Rattle.std.proofs.Common.{arith, rules}
 use Rattle.forms.proofs.digits_at.Goals as goal
 
 pub returns-in-Nothing : goal.returns-in-Nothing

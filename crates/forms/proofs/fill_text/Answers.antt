@@ -1,8 +1,6 @@
 -- `fill_text` meets its contract.
-use borrow.Author.Rules.{rules}
 use Rattle.forms.proofs.TextLaws.{fills-not, fills}
 use mathlib.Core.Path.{sym, ◌∙◌}
-use Rattle.std.proofs.Common.{arith, rules}
 use Rattle.forms.proofs.fill_text.Goals as goal
 
 pub returns-then-text_len-out : goal.returns-then-text_len-out

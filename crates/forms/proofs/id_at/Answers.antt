@@ -1,8 +1,6 @@
 -- `id_at` meets its contract.
-use borrow.Author.Rules.{rules}
 use Rattle.forms.proofs.StepLaws.{text-none, text_at}
 use Rattle.rules.specs.Take.{hex}
-use Rattle.std.proofs.Common.{arith, rules}
 use Rattle.forms.proofs.id_at.Goals as goal
 
 pub returns-in-Nothing : goal.returns-in-Nothing

@@ -1,7 +1,5 @@
 -- `id_field` meets its contract.
-use borrow.Author.Rules.{rules}
 use Rattle.forms.proofs.StepLaws.{must-none, must-at}
-use Rattle.std.proofs.Common.{arith, rules}
 use Rattle.forms.proofs.id_field.Goals as goal
 
 pub returns-in-Nothing : goal.returns-in-Nothing

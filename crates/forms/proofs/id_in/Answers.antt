@@ -4,7 +4,7 @@ use borrow.Author.Tests.{not-false}
 use Rattle.records.specs.View.{view_id}
 use Rattle.forms.specs.View.{view_id_at}
 use Rattle.forms.proofs.TextLaws.{quote-inside, unhex-plain}
-use Rattle.std.proofs.Common.{arith, rules}
+use Rattle.std.proofs.Common.{rules}
 use Rattle.forms.proofs.id_in.Goals as goal
 
 pub slice_bounds-hex32-end : goal.slice_bounds-hex32-end

@@ -7,7 +7,6 @@ use Rattle.records.specs.View.{view_listed}
 use Rattle.rules.specs.Forms.{version}
 use Rattle.forms.specs.View.{view_may_id, view_may_number, view_listed_at}
 use Rattle.forms.proofs.ListedLaws.{no-version, no_length, listed-is}
-use Rattle.std.proofs.Common.{arith, rules}
 use Rattle.forms.proofs.listed_at.Goals as goal
 
 pub returns-in-No : goal.returns-in-No

@@ -2,7 +2,6 @@
 use Rattle.canonical_json.specs.Fields.{keep}
 use Rattle.forms.specs.View.{view_id_at}
 use mathlib.Core.Path.{refl}
-use Rattle.std.proofs.Common.{arith, rules}
 use Rattle.forms.proofs.no_id.Goals as goal
 
 pub returns : goal.returns

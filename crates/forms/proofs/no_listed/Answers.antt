@@ -2,7 +2,6 @@
 use mathlib.Core.Path.{refl}
 use Rattle.canonical_json.specs.Fields.{keep}
 use Rattle.forms.specs.View.{view_listed_at}
-use Rattle.std.proofs.Common.{arith, rules}
 use Rattle.forms.proofs.no_listed.Goals as goal
 
 pub returns : goal.returns

@@ -1,12 +1,10 @@
 -- `number_may` meets its contract.
-use borrow.Author.Rules.{rules}
 use mathlib.Core.Path.{refl}
 use mathlib.Core.Option.{bind}
 use Rattle.canonical_json.specs.Fields.{keep}
 use Rattle.lookup.proofs.NumberLaws.{number_takes}
 use Rattle.forms.specs.View.{view_may_number}
 use Rattle.forms.proofs.StepLaws.{may_none, may_at}
-use Rattle.std.proofs.Common.{arith, rules}
 use Rattle.forms.proofs.number_may.Goals as goal
 
 pub returns-in-Nothing : goal.returns-in-Nothing

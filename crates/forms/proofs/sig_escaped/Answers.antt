@@ -1,10 +1,7 @@
 -- `sig_escaped` meets its contract.
-use borrow.Author.Rules.{rules}
 use Rattle.forms.proofs.TextLaws.{unhex-not, unhex-is}
-use borrow.Author.Tests.{not-true, not-false}
 use mathlib.Core.Path.{refl, ◌∙◌}
 use Rattle.forms.specs.View.{view_sig}
-use Rattle.std.proofs.Common.{arith, rules}
 use Rattle.forms.proofs.sig_escaped.Goals as goal
 
 pub returns-then-not-fill_text : goal.returns-then-not-fill_text

@@ -3,7 +3,7 @@ use mathlib.Core.Path.{refl, sym, ◌∙◌}
 use borrow.Author.Tests.{not-false}
 use Rattle.forms.specs.View.{view_sig}
 use Rattle.forms.proofs.TextLaws.{quote-inside, unhex-plain}
-use Rattle.std.proofs.Common.{arith, rules}
+use Rattle.std.proofs.Common.{rules}
 use Rattle.forms.proofs.sig_in.Goals as goal
 
 pub slice_bounds-hex64-end : goal.slice_bounds-hex64-end

@@ -1,10 +1,8 @@
 -- `word_at` meets its contract.
-use borrow.Author.Rules.{rules}
 use Rattle.forms.proofs.StepLaws.{text-none, text_at}
 use Rattle.rules.specs.Take.{word}
 use Rattle.canonical_json.specs.Fields.{keep}
 use mathlib.Core.Path.{refl, ap}
-use Rattle.std.proofs.Common.{arith, rules}
 use Rattle.forms.proofs.word_at.Goals as goal
 
 pub returns-in-Nothing : goal.returns-in-Nothing

@@ -1,9 +1,7 @@
 -- `word_field` meets its contract.
-use borrow.Author.Rules.{rules}
 use mathlib.Core.Path.{refl}
 use Rattle.canonical_json.specs.Fields.{keep}
 use Rattle.forms.proofs.StepLaws.{must-none, must-at}
-use Rattle.std.proofs.Common.{arith, rules}
 use Rattle.forms.proofs.word_field.Goals as goal
 
 pub returns-in-Nothing : goal.returns-in-Nothing

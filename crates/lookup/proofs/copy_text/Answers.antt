@@ -1,14 +1,8 @@
-use mathlib.Core.Path.{◌≡◌, refl, ap, ◌∙◌}
-use Prim.Native.Nat.{◌≤◌, ◌+◌, ◌-◌}
+use mathlib.Core.Path.{refl, ap, ◌∙◌}
 use native.Mathlib.Omega.{arith}
-use borrow.Author.Rules.{rules}
-use lib.ListN.{length, drop}
-use Rattle.canonical_json.specs.Read.{raw}
+use lib.ListN.{length}
 use lib.ListN.{length-set}
-use lib.Seq.{sets}
-use Rattle.lookup.specs.Leaves.{copied}
 use Rattle.lookup.proofs.StringLaws as strings
-use Rattle.std.proofs.Common.{rules}
 use Rattle.lookup.proofs.copy_text.Goals as goal
 
 pub returns-then-out-text_len : goal.returns-then-out-text_len

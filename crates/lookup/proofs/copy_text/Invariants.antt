@@ -1,14 +1,10 @@
 -- `copy_text` meets its contract. The invariant: to store the bytes left after those stored gives the whole copy.
-use mathlib.Core.Path.{◌≡◌, refl, ap, ◌∙◌}
+use mathlib.Core.Path.{◌≡◌}
 use Prim.Native.Nat.{◌≤◌, ◌+◌, ◌-◌}
-use native.Mathlib.Omega.{arith}
-use borrow.Author.Rules.{rules}
 use lib.ListN.{length, drop}
 use Rattle.canonical_json.specs.Read.{raw}
-use lib.ListN.{length-set}
 use lib.Seq.{sets}
 use Rattle.lookup.specs.Leaves.{copied}
-use Rattle.lookup.proofs.StringLaws as strings
 use Rattle.lookup.proofs.copy_text.Given as goal
 
 abbrev pub invariant-loop-b : goal.invariant-loop-b

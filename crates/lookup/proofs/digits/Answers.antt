@@ -1,12 +1,10 @@
-use mathlib.Core.Path.{◌≡◌, refl, sym, ap, ◌∙◌}
-use Prim.Native.Nat.{ℕ, ◌≤◌, ◌+◌, ◌-◌, ◌*◌}
+use mathlib.Core.Path.{refl, sym, ap, ◌∙◌}
+use Prim.Native.Nat.{ℕ, ◌+◌, ◌-◌, ◌*◌}
 use native.Mathlib.Omega.{arith}
-use borrow.Author.Rules.{rules}
-use lib.ListN.{length, drop, get_or}
+use lib.ListN.{drop, get_or}
 use Rattle.base.proofs.ByteLaws.{digit, digit_low, digit-high}
 use Rattle.lookup.specs.Leaves.{leading}
 use Rattle.lookup.proofs.NumberLaws as numbers
-use Rattle.std.proofs.Common.{rules}
 use Rattle.lookup.proofs.digits.Goals as goal
 
 pub loop-i-init : goal.loop-i-init

@@ -1,12 +1,8 @@
 -- `digits` meets its contract. The invariant: n is at most hi, and with the digits left it is the number.
-use mathlib.Core.Path.{◌≡◌, refl, sym, ap, ◌∙◌}
-use Prim.Native.Nat.{ℕ, ◌≤◌, ◌+◌, ◌-◌, ◌*◌}
-use native.Mathlib.Omega.{arith}
-use borrow.Author.Rules.{rules}
-use lib.ListN.{length, drop, get_or}
-use Rattle.base.proofs.ByteLaws.{digit, digit_low, digit-high}
+use mathlib.Core.Path.{◌≡◌}
+use Prim.Native.Nat.{◌≤◌, ◌-◌}
+use lib.ListN.{length, drop}
 use Rattle.lookup.specs.Leaves.{leading}
-use Rattle.lookup.proofs.NumberLaws as numbers
 use Rattle.lookup.proofs.digits.Given as goal
 
 abbrev pub invariant-loop-i : goal.invariant-loop-i

@@ -1,8 +1,6 @@
 -- `end_by` meets its contract: a known end is the end, and any other is looked for.
-use borrow.Author.Rules.{rules}
 use native.Mathlib.Omega.{arith}
 use Rattle.lookup.proofs.StandsLaws as stands
-use Rattle.std.proofs.Common.{rules}
 use Rattle.lookup.proofs.end_by.Goals as goal
 
 pub returns-in-Nothing : goal.returns-in-Nothing

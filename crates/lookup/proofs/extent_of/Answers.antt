@@ -1,7 +1,5 @@
 -- `extent_of` meets its contract.
-use borrow.Author.Rules.{rules}
 use Rattle.lookup.proofs.StandsLaws.{known-none, found-end}
-use Rattle.std.proofs.Common.{arith, rules}
 use Rattle.lookup.proofs.extent_of.Goals as goal
 
 pub returns-in-Nothing : goal.returns-in-Nothing

@@ -1,10 +1,7 @@
-use borrow.Author.Rules.{rules}
 use mathlib.Core.Path.{refl, sym, ◌∙◌}
-use Rattle.lookup.specs.Place.{KnownEnd}
 use Rattle.lookup.specs.declared.Found.TheVariants.{Nothing}
-use Rattle.lookup.proofs.MemberLaws.{ahead, ahead-less}
-use Rattle.lookup.proofs.SeveralLaws.{note-other, Seeks, seeks_first, seeks_here, seeks_none, seeks_end, seeks_next}
-use Rattle.std.proofs.Common.{arith, rules}
+use Rattle.lookup.proofs.MemberLaws.{ahead-less}
+use Rattle.lookup.proofs.SeveralLaws.{note-other, seeks_first, seeks_here, seeks_none, seeks_end, seeks_next}
 use Rattle.lookup.proofs.find_member_by.Goals as goal
 
 pub loop-m-init : goal.loop-m-init

@@ -1,10 +1,8 @@
 -- `find_member_by` meets its contract. The invariant: the members left decide.
-use borrow.Author.Rules.{rules}
-use mathlib.Core.Path.{refl, sym, ◌∙◌}
 use Rattle.lookup.specs.Place.{KnownEnd}
 use Rattle.lookup.specs.declared.Found.TheVariants.{Nothing}
-use Rattle.lookup.proofs.MemberLaws.{ahead, ahead-less}
-use Rattle.lookup.proofs.SeveralLaws.{note-other, Seeks, seeks_first, seeks_here, seeks_none, seeks_end, seeks_next}
+use Rattle.lookup.proofs.MemberLaws.{ahead}
+use Rattle.lookup.proofs.SeveralLaws.{Seeks}
 use Rattle.lookup.proofs.find_member_by.Given as goal
 
 abbrev pub invariant-loop-m : goal.invariant-loop-m

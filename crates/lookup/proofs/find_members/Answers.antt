@@ -1,7 +1,5 @@
 -- `find_members` meets its contract: nothing is known.
-use borrow.Author.Rules.{rules}
 use Rattle.lookup.proofs.StandsLaws.{known-none}
-use Rattle.std.proofs.Common.{arith, rules}
 use Rattle.lookup.proofs.find_members.Goals as goal
 
 pub returns : goal.returns

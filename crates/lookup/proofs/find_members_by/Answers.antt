@@ -1,9 +1,6 @@
-use borrow.Author.Rules.{rules}
-use Rattle.lookup.specs.Place.{KnownEnd}
-use Rattle.lookup.proofs.MemberLaws.{ahead, ahead-less}
-use Rattle.lookup.proofs.EndLaws.{Walks, walks_first, walks_next, walks_end}
-use Rattle.lookup.proofs.SeveralLaws.{Seeks, seeks_first, seeks_none, seeks_end, seeks_next}
-use Rattle.std.proofs.Common.{arith, rules}
+use Rattle.lookup.proofs.MemberLaws.{ahead-less}
+use Rattle.lookup.proofs.EndLaws.{walks_first, walks_next, walks_end}
+use Rattle.lookup.proofs.SeveralLaws.{seeks_first, seeks_none, seeks_end, seeks_next}
 use Rattle.lookup.proofs.find_members_by.Goals as goal
 
 pub loop-m-init : goal.loop-m-init

@@ -1,9 +1,8 @@
 -- `find_members_by` meets its contract. The invariant: of each name something was found or the members left decide, and the walk ends where the object does.
-use borrow.Author.Rules.{rules}
 use Rattle.lookup.specs.Place.{KnownEnd}
-use Rattle.lookup.proofs.MemberLaws.{ahead, ahead-less}
-use Rattle.lookup.proofs.EndLaws.{Walks, walks_first, walks_next, walks_end}
-use Rattle.lookup.proofs.SeveralLaws.{Seeks, seeks_first, seeks_none, seeks_end, seeks_next}
+use Rattle.lookup.proofs.MemberLaws.{ahead}
+use Rattle.lookup.proofs.EndLaws.{Walks}
+use Rattle.lookup.proofs.SeveralLaws.{Seeks}
 use Rattle.lookup.proofs.find_members_by.Given as goal
 
 abbrev pub invariant-loop-m : goal.invariant-loop-m

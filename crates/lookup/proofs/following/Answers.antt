@@ -1,10 +1,8 @@
 -- `following` meets its contract: the value before ends where `end_by` says.
-use borrow.Author.Rules.{rules}
 use mathlib.Core.Path.{sym}
 use native.Mathlib.Omega.{arith}
 use Rattle.lookup.proofs.StandsLaws as stands
 use Rattle.lookup.proofs.ItemLaws as items
-use Rattle.std.proofs.Common.{rules}
 use Rattle.lookup.proofs.following.Goals as goal
 
 pub returns-in-Nothing : goal.returns-in-Nothing

@@ -1,7 +1,5 @@
 -- `known_end` meets its contract.
-use borrow.Author.Rules.{rules}
 use Rattle.lookup.proofs.StandsLaws.{known_at}
-use Rattle.std.proofs.Common.{arith, rules}
 use Rattle.lookup.proofs.known_end.Goals as goal
 
 pub returns : goal.returns

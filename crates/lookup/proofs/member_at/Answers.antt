@@ -1,8 +1,6 @@
 -- `member_at` meets its contract: a name is a string that stands before its colon.
-use borrow.Author.Rules.{rules}
 use mathlib.Core.Path.{refl}
 use Rattle.lookup.proofs.MemberLaws as members
-use Rattle.std.proofs.Common.{arith, rules}
 use Rattle.lookup.proofs.member_at.Goals as goal
 
 pub returns-then-s-i : goal.returns-then-s-i

@@ -1,7 +1,5 @@
 -- `next_element` meets its contract.
-use borrow.Author.Rules.{rules}
 use Rattle.lookup.proofs.ItemLaws as items
-use Rattle.std.proofs.Common.{arith, rules}
 use Rattle.lookup.proofs.next_element.Goals as goal
 
 pub returns : goal.returns

@@ -1,8 +1,6 @@
 -- `next_member_by` meets its contract.
-use borrow.Author.Rules.{rules}
 use Rattle.lookup.proofs.ItemLaws as items
 use Rattle.lookup.proofs.MemberLaws as members
-use Rattle.std.proofs.Common.{arith, rules}
 use Rattle.lookup.proofs.next_member_by.Goals as goal
 
 pub returns-in-NoArray : goal.returns-in-NoArray

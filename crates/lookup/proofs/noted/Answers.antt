@@ -1,8 +1,6 @@
 -- `noted` meets its contract.
-use borrow.Author.Rules.{rules}
 use mathlib.Core.Path.{sym, ◌∙◌}
 use Rattle.lookup.proofs.SeveralLaws.{note-here, note-other, note-before}
-use Rattle.std.proofs.Common.{arith, rules}
 use Rattle.lookup.proofs.noted.Goals as goal
 
 pub returns-then-text_is : goal.returns-then-text_is

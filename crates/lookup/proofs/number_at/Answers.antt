@@ -1,10 +1,8 @@
 -- `number_at` meets its contract: one law for each way out.
-use borrow.Author.Rules.{rules}
 use mathlib.Core.Path.{sym, ap, ◌∙◌}
 use Rattle.base.proofs.ByteLaws.{digit, digit_low, digit-high}
 use Rattle.lookup.specs.Leaves.{view_number}
 use Rattle.lookup.proofs.NumberLaws as numbers
-use Rattle.std.proofs.Common.{arith, rules}
 use Rattle.lookup.proofs.number_at.Goals as goal
 
 pub returns-then-s-at : goal.returns-then-s-at

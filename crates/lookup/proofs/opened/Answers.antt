@@ -1,9 +1,7 @@
 -- `opened` meets its contract: one law for each way out.
-use borrow.Author.Rules.{rules}
 use mathlib.Core.Path.{sym, ◌∙◌}
 use native.Mathlib.Omega.{arith}
 use Rattle.lookup.proofs.ItemLaws as items
-use Rattle.std.proofs.Common.{rules}
 use Rattle.lookup.proofs.opened.Goals as goal
 
 pub returns-then-s-at : goal.returns-then-s-at

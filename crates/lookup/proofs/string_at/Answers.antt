@@ -1,8 +1,6 @@
 -- `string_at` meets its contract.
-use borrow.Author.Rules.{rules}
 use mathlib.Core.Path.{sym}
 use Rattle.lookup.proofs.StringLaws as strings
-use Rattle.std.proofs.Common.{arith, rules}
 use Rattle.lookup.proofs.string_at.Goals as goal
 
 pub returns-then-s-at : goal.returns-then-s-at

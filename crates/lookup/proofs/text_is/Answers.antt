@@ -1,7 +1,5 @@
 -- `text_is` meets its contract: strings are the same just where they are equal in order.
-use borrow.Author.Rules.{rules}
 use Rattle.lookup.proofs.StringLaws.{order_same}
-use Rattle.std.proofs.Common.{arith, rules}
 use Rattle.lookup.proofs.text_is.Goals as goal
 
 pub returns-in-Smaller : goal.returns-in-Smaller

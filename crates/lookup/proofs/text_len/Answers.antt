@@ -1,11 +1,7 @@
-use mathlib.Core.Path.{◌≡◌, ap}
-use Prim.Native.Nat.{◌≤◌, ◌+◌, ◌-◌}
+use mathlib.Core.Path.{ap}
 use native.Mathlib.Omega.{arith}
-use borrow.Author.Rules.{rules}
-use lib.ListN.{length, drop}
-use Rattle.canonical_json.specs.Read.{raw}
+use lib.ListN.{length}
 use Rattle.lookup.proofs.StringLaws as strings
-use Rattle.std.proofs.Common.{rules}
 use Rattle.lookup.proofs.text_len.Goals as goal
 
 pub overflow_sub-n : goal.overflow_sub-n

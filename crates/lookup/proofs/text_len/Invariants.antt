@@ -1,11 +1,8 @@
 -- `text_len` meets its contract. The invariant: the bytes counted and those left are all.
-use mathlib.Core.Path.{◌≡◌, ap}
+use mathlib.Core.Path.{◌≡◌}
 use Prim.Native.Nat.{◌≤◌, ◌+◌, ◌-◌}
-use native.Mathlib.Omega.{arith}
-use borrow.Author.Rules.{rules}
 use lib.ListN.{length, drop}
 use Rattle.canonical_json.specs.Read.{raw}
-use Rattle.lookup.proofs.StringLaws as strings
 use Rattle.lookup.proofs.text_len.Given as goal
 
 abbrev pub invariant-loop-next : goal.invariant-loop-next

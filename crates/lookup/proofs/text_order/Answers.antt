@@ -1,12 +1,8 @@
-use mathlib.Core.Path.{◌≡◌, sym, ◌∙◌}
-use Prim.Native.Nat.{◌≤◌, ◌-◌}
+use mathlib.Core.Path.{sym, ◌∙◌}
 use native.Mathlib.Omega.{arith}
-use borrow.Author.Rules.{rules}
-use lib.ListN.{length, drop}
+use lib.ListN.{drop}
 use Rattle.canonical_json.specs.Read.{raw}
-use Rattle.lookup.specs.Leaves.{order_of}
 use Rattle.lookup.proofs.StringLaws as strings
-use Rattle.std.proofs.Common.{rules}
 use Rattle.lookup.proofs.text_order.Goals as goal
 
 pub returns-then-j-k : goal.returns-then-j-k

@@ -1,12 +1,9 @@
 -- `text_order` meets its contract. The invariant: what is left of both stands as they do.
-use mathlib.Core.Path.{◌≡◌, sym, ◌∙◌}
+use mathlib.Core.Path.{◌≡◌}
 use Prim.Native.Nat.{◌≤◌, ◌-◌}
-use native.Mathlib.Omega.{arith}
-use borrow.Author.Rules.{rules}
 use lib.ListN.{length, drop}
 use Rattle.canonical_json.specs.Read.{raw}
 use Rattle.lookup.specs.Leaves.{order_of}
-use Rattle.lookup.proofs.StringLaws as strings
 use Rattle.lookup.proofs.text_order.Given as goal
 
 abbrev pub invariant-loop-b : goal.invariant-loop-b

@@ -1,6 +1,6 @@
 -- `truth_at` meets its contract.
 use Rattle.lookup.proofs.TruthLaws as truths
-use Rattle.std.proofs.Common.{arith, rules}
+use Rattle.std.proofs.Common.{arith}
 use Rattle.lookup.proofs.truth_at.Goals as goal
 
 pub returns-then-s-at : goal.returns-then-s-at

@@ -1,9 +1,7 @@
 -- `value_end` meets its contract: the skip finds the end of every value that stands.
-use borrow.Author.Rules.{rules}
 use mathlib.Core.Path.{ap}
 use Rattle.lookup.proofs.StandsLaws as stands
 use Rattle.lookup.specs.declared.Found.TheVariants.{At}
-use Rattle.std.proofs.Common.{arith, rules}
 use Rattle.lookup.proofs.value_end.Goals as goal
 
 pub returns-in-No : goal.returns-in-No
