@@ -1,0 +1,10 @@
+-- `kept`: held before and not dropped.
+use borrow.Author.Tests.{not-true, not-false}
+use Rattle.std.proofs.Common.{arith, rules}
+use Rattle.state.proofs.kept.Goals as goal
+
+pub returns-then-not-held : goal.returns-then-not-held
+returns-then-not-held c = simp c.if-not-held.true
+
+pub returns : goal.returns
+returns c = simp c.if-not-held.false
