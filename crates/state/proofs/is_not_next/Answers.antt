@@ -1,7 +1,5 @@
 -- `is_not_next`: no version is after the highest one, and 0 is after none.
 use Rattle.state.proofs.VersionLaws.{zero-other, next-other}
-use borrow.Author.Rules.{rules}
-use Rattle.std.proofs.Common.{arith, rules}
 use Rattle.state.proofs.is_not_next.Goals as goal
 
 pub returns-then-new-eq0 : goal.returns-then-new-eq0

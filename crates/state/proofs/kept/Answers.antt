@@ -1,6 +1,4 @@
 -- `kept`: held before and not dropped.
-use borrow.Author.Tests.{not-true, not-false}
-use Rattle.std.proofs.Common.{arith, rules}
 use Rattle.state.proofs.kept.Goals as goal
 
 pub returns-then-not-held : goal.returns-then-not-held

@@ -1,9 +1,7 @@
 -- `rotates_both`: the keys of the timestamp role, or those of the snapshot role.
 use mathlib.Core.Path.{sym, ◌∙◌}
-use borrow.Author.Rules.{rules}
 use Rattle.rules.specs.Conditions.{rotates}
 use Rattle.records.specs.View.{view_root}
-use Rattle.std.proofs.Common.{arith, rules}
 use Rattle.state.proofs.rotates_both.Goals as goal
 
 pub returns-then-rotated : goal.returns-then-rotated

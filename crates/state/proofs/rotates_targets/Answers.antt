@@ -1,9 +1,7 @@
 -- `rotates_targets`: a root that rotates the other keys, or those of the targets role.
 use mathlib.Core.Path.{sym, ◌∙◌}
-use borrow.Author.Rules.{rules}
 use Rattle.rules.specs.Conditions.{rotates_targets}
 use Rattle.records.specs.View.{view_root}
-use Rattle.std.proofs.Common.{arith, rules}
 use Rattle.state.proofs.rotates_targets.Goals as goal
 
 pub returns-then-rotates_both : goal.returns-then-rotates_both

@@ -1,7 +1,5 @@
 -- `version_if`: the number is told where the record is held.
-use borrow.Author.Tests.{not-true, not-false}
 use Rattle.state.proofs.ToldLaws.{not-shown, shown}
-use Rattle.std.proofs.Common.{arith, rules}
 use Rattle.state.proofs.version_if.Goals as goal
 
 pub returns-then-not-held : goal.returns-then-not-held

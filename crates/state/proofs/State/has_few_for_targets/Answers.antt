@@ -1,10 +1,8 @@
 -- `State::has_few_for_targets`: too few different keys of the held root, for the targets role.
-use borrow.Author.Rules.{rules}
 use borrow.Author.Tests.{not-true, not-false}
 use Rattle.records.specs.View.{view_root}
 use Rattle.state.specs.View.{view}
 use Rattle.state.proofs.HeldLaws.{held_test, not-held}
-use Rattle.std.proofs.Common.{arith, rules}
 use Rattle.state.proofs.State.has_few_for_targets.Goals as goal
 
 pub returns-then-not-self : goal.returns-then-not-self

@@ -4,7 +4,6 @@ use borrow.Author.Tests.{not-true, not-false}
 use Rattle.records.specs.View.{view_timestamp, view_listed}
 use Rattle.state.specs.View.{view}
 use Rattle.state.proofs.HeldLaws.{held_test, not-held}
-use Rattle.std.proofs.Common.{arith, rules}
 use Rattle.state.proofs.State.has_later_listed.Goals as goal
 
 pub returns-then-not-self : goal.returns-then-not-self

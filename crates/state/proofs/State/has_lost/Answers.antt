@@ -1,10 +1,8 @@
 -- `State::has_lost`: a name of the held snapshot vanished or its version went back.
-use borrow.Author.Rules.{rules}
 use borrow.Author.Tests.{not-true, not-false}
 use Rattle.records.specs.View.{view_snapshot}
 use Rattle.state.specs.View.{view}
 use Rattle.state.proofs.HeldLaws.{held_test, not-held}
-use Rattle.std.proofs.Common.{arith, rules}
 use Rattle.state.proofs.State.has_lost.Goals as goal
 
 pub returns-then-not-self : goal.returns-then-not-self

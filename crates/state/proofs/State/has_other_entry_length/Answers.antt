@@ -1,13 +1,11 @@
 -- `State::has_other_entry_length`: the length that is listed of `targets.json` is another.
 use mathlib.Core.Path.{refl, ap, ◌∙◌}
-use borrow.Author.Rules.{rules}
 use borrow.Author.Tests.{not-true, not-false}
 use Rattle.rules.specs.Records.{Listed}
 use Rattle.rules.specs.Conditions.{other_length}
 use Rattle.records.specs.View.{view_snapshot}
 use Rattle.state.specs.View.{view}
 use Rattle.state.proofs.HeldLaws.{held_test, not-held}
-use Rattle.std.proofs.Common.{arith, rules}
 use Rattle.state.proofs.State.has_other_entry_length.Goals as goal
 
 pub returns-then-not-self : goal.returns-then-not-self

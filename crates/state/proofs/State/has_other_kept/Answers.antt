@@ -1,12 +1,10 @@
 -- `State::has_other_kept`: not the digest that was kept of the held targets record.
 use mathlib.Core.Path.{ap}
 use mathlib.Core.Bool.{not}
-use borrow.Author.Rules.{rules}
 use borrow.Author.Tests.{not-true, not-false}
 use Rattle.records.specs.View.{view_targets}
 use Rattle.state.specs.View.{view}
 use Rattle.state.proofs.HeldLaws.{held_test, not-held}
-use Rattle.std.proofs.Common.{arith, rules}
 use Rattle.state.proofs.State.has_other_kept.Goals as goal
 
 pub returns-then-not-self : goal.returns-then-not-self

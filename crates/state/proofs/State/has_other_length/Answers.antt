@@ -1,10 +1,8 @@
 -- `State::has_other_length`: the length that the held timestamp lists is another.
-use borrow.Author.Rules.{rules}
 use borrow.Author.Tests.{not-true, not-false}
 use Rattle.records.specs.View.{view_timestamp}
 use Rattle.state.specs.View.{view}
 use Rattle.state.proofs.HeldLaws.{held_test, not-held}
-use Rattle.std.proofs.Common.{arith, rules}
 use Rattle.state.proofs.State.has_other_length.Goals as goal
 
 pub returns-then-not-self : goal.returns-then-not-self

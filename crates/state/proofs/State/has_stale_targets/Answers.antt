@@ -1,13 +1,11 @@
 -- `State::has_stale_targets`: where both are held, the targets version against the one that the snapshot lists.
 use mathlib.Core.Path.{refl, ap}
-use borrow.Author.Rules.{rules}
 use borrow.Author.Tests.{not-true, not-false}
 use Rattle.rules.specs.Records.{Listed}
 use Rattle.rules.specs.Conditions.{stale_targets, other_version}
 use Rattle.records.specs.View.{view_snapshot, view_targets, view_listed}
 use Rattle.state.specs.View.{view}
 use Rattle.state.proofs.HeldLaws.{held_test, not-held}
-use Rattle.std.proofs.Common.{arith, rules}
 use Rattle.state.proofs.State.has_stale_targets.Goals as goal
 
 pub returns-then-not-self : goal.returns-then-not-self

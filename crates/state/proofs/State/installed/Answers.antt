@@ -1,11 +1,9 @@
 -- `State::installed`: the root alone is held.
-use borrow.Author.Rules.{rules}
 use Rattle.rules.specs.Steps.{root_alone}
 use Rattle.rules.specs.State.{blank}
 use Rattle.records.specs.View.{view_root}
 use Rattle.state.specs.View.{view}
 use Rattle.state.proofs.HeldLaws.{held-is}
-use Rattle.std.proofs.Common.{arith, rules}
 use Rattle.state.proofs.State.installed.Goals as goal
 
 pub returns : goal.returns

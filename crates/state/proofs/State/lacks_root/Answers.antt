@@ -2,7 +2,6 @@
 use Rattle.records.specs.View.{view_root}
 use Rattle.state.specs.View.{view}
 use Rattle.state.proofs.HeldLaws.{absent_test}
-use Rattle.std.proofs.Common.{arith, rules}
 use Rattle.state.proofs.State.lacks_root.Goals as goal
 
 pub returns : goal.returns

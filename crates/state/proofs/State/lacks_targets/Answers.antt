@@ -2,7 +2,6 @@
 use Rattle.records.specs.View.{view_targets}
 use Rattle.state.specs.View.{view}
 use Rattle.state.proofs.HeldLaws.{absent_test}
-use Rattle.std.proofs.Common.{arith, rules}
 use Rattle.state.proofs.State.lacks_targets.Goals as goal
 
 pub returns : goal.returns

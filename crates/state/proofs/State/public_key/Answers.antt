@@ -1,7 +1,5 @@
 -- `State::public_key`: the key table of the stored root is asked.
-use borrow.Author.Rules.{rules}
 use Rattle.records.specs.View.{view_root}
-use Rattle.std.proofs.Common.{arith, rules}
 use Rattle.state.proofs.State.public_key.Goals as goal
 
 pub returns : goal.returns

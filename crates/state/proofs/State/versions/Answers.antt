@@ -1,11 +1,9 @@
 -- `State::versions`: each version by its record's flag.
 use mathlib.Core.Path.{refl}
-use borrow.Author.Rules.{rules}
 use Rattle.rules.specs.State as rules
 use Rattle.records.specs.View.{view_root, view_timestamp, view_snapshot, view_targets}
 use Rattle.state.specs.View.{view}
 use Rattle.state.proofs.ToldLaws.{shown_of}
-use Rattle.std.proofs.Common.{arith, rules}
 use Rattle.state.proofs.State.versions.Goals as goal
 
 pub returns : goal.returns

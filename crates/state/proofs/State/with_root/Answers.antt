@@ -1,10 +1,8 @@
 -- `State::with_root`: the new root is held; each other record is held as before unless the root drops it.
-use borrow.Author.Rules.{rules}
 use Rattle.rules.specs.Steps.{with_root}
 use Rattle.records.specs.View.{view_root, view_timestamp, view_snapshot, view_targets}
 use Rattle.state.specs.View.{view}
 use Rattle.state.proofs.HeldLaws.{dropped, held-is}
-use Rattle.std.proofs.Common.{arith, rules}
 use Rattle.state.proofs.State.with_root.Goals as goal
 
 pub returns : goal.returns

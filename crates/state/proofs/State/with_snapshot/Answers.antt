@@ -3,7 +3,6 @@ use mathlib.Core.Path.{refl}
 use Rattle.canonical_json.specs.Fields.{keep}
 use Rattle.rules.specs.Steps.{with_snapshot}
 use Rattle.state.specs.View.{view}
-use Rattle.std.proofs.Common.{arith, rules}
 use Rattle.state.proofs.State.with_snapshot.Goals as goal
 
 pub returns : goal.returns

@@ -2,7 +2,6 @@
 use mathlib.Core.Path.{refl}
 use Rattle.rules.specs.Steps.{with_start}
 use Rattle.state.specs.View.{view}
-use Rattle.std.proofs.Common.{arith, rules}
 use Rattle.state.proofs.State.with_start.Goals as goal
 
 pub returns : goal.returns
