@@ -1,5 +1,4 @@
 -- `has_own_keyid` meets its contract: the digest is that of the text from the value's place to its end.
-use borrow.Author.Rules.{rules}
 use mathlib.Core.Path.{ap, ◌∙◌}
 use lib.ListN.{drop}
 use Rattle.base.specs.Bytes.{same}
@@ -7,7 +6,6 @@ use Rattle.canonical_json.specs.Read.{raw}
 use native.Mathlib.Omega.{arith}
 use Rattle.lookup.proofs.StandsLaws.{place_after}
 use Rattle.root_file.proofs.OwnLaws.{endless, by-digest}
-use Rattle.std.proofs.Common.{rules}
 use Rattle.root_file.proofs.has_own_keyid.Goals as goal
 
 pub slice_bounds-hex_digest-start : goal.slice_bounds-hex_digest-start

@@ -1,13 +1,6 @@
-use borrow.Author.Rules.{rules}
-use borrow.Author.Tests.{not-true, not-false}
-use Rattle.canonical_json.specs.Json.{Json}
-use Rattle.canonical_json.specs.Fields.{members}
-use Rattle.lookup.specs.Place.{Stands}
 use Rattle.lookup.proofs.StandsLaws.{ended}
-use Rattle.lookup.proofs.MemberLaws.{ahead, ahead-less}
-use Rattle.rules.specs.Forms.{own_table}
-use Rattle.root_file.proofs.OwnLaws.{OwnLeft, own_first, own-none, own-end, own-not, own-next}
-use Rattle.std.proofs.Common.{arith, rules}
+use Rattle.lookup.proofs.MemberLaws.{ahead-less}
+use Rattle.root_file.proofs.OwnLaws.{own_first, own-none, own-end, own-not, own-next}
 use Rattle.root_file.proofs.has_own_keyids.Goals as goal
 
 pub loop-m-init : goal.loop-m-init

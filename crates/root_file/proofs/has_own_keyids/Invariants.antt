@@ -1,13 +1,10 @@
 -- `has_own_keyids` meets its contract. The invariant: the members left decide the whole.
-use borrow.Author.Rules.{rules}
-use borrow.Author.Tests.{not-true, not-false}
 use Rattle.canonical_json.specs.Json.{Json}
 use Rattle.canonical_json.specs.Fields.{members}
 use Rattle.lookup.specs.Place.{Stands}
-use Rattle.lookup.proofs.StandsLaws.{ended}
-use Rattle.lookup.proofs.MemberLaws.{ahead, ahead-less}
+use Rattle.lookup.proofs.MemberLaws.{ahead}
 use Rattle.rules.specs.Forms.{own_table}
-use Rattle.root_file.proofs.OwnLaws.{OwnLeft, own_first, own-none, own-end, own-not, own-next}
+use Rattle.root_file.proofs.OwnLaws.{OwnLeft}
 use Rattle.root_file.proofs.has_own_keyids.Given as goal
 
 abbrev pub invariant-loop-m : goal.invariant-loop-m

@@ -1,12 +1,7 @@
-use borrow.Author.Rules.{rules}
 use native.Mathlib.Omega.{arith}
-use Prim.Native.Nat.{◌-◌}
-use mathlib.Core.Path.{◌≡◌, refl, sym, ◌∙◌}
-use Rattle.rules.specs.Forms.{is_in}
-use Rattle.records.specs.View.{view_id, key_at}
-use Rattle.root_file.specs.View.{publics_from}
+use mathlib.Core.Path.{sym, ◌∙◌}
+use Rattle.records.specs.View.{key_at}
 use Rattle.root_file.proofs.TableLaws.{public-hit, public-skip, public-end}
-use Rattle.std.proofs.Common.{rules}
 use Rattle.root_file.proofs.has_public.Goals as goal
 
 pub returns-then-same_id : goal.returns-then-same_id

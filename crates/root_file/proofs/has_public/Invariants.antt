@@ -1,12 +1,9 @@
 -- `has_public`: the public values from place j on decide.
-use borrow.Author.Rules.{rules}
-use native.Mathlib.Omega.{arith}
 use Prim.Native.Nat.{◌-◌}
-use mathlib.Core.Path.{◌≡◌, refl, sym, ◌∙◌}
+use mathlib.Core.Path.{◌≡◌}
 use Rattle.rules.specs.Forms.{is_in}
-use Rattle.records.specs.View.{view_id, key_at}
+use Rattle.records.specs.View.{view_id}
 use Rattle.root_file.specs.View.{publics_from}
-use Rattle.root_file.proofs.TableLaws.{public-hit, public-skip, public-end}
 use Rattle.root_file.proofs.has_public.Given as goal
 
 abbrev pub invariant-loop-j : goal.invariant-loop-j

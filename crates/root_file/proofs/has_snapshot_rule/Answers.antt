@@ -1,11 +1,9 @@
 -- `has_snapshot_rule` meets its contract.
-use borrow.Author.Rules.{rules}
 use mathlib.Core.Path.{refl, sym, ap, ◌∙◌}
 use Rattle.canonical_json.specs.Fields.{keep}
 use Rattle.lookup.specs.Leaves.{view_truth}
 use Rattle.forms.proofs.StepLaws.{must-none, must-at}
 use Rattle.root_file.proofs.BodyLaws.{truth-not, truth-said}
-use Rattle.std.proofs.Common.{arith, rules}
 use Rattle.root_file.proofs.has_snapshot_rule.Goals as goal
 
 pub returns-in-Nothing : goal.returns-in-Nothing

@@ -1,5 +1,4 @@
 -- `key_at` meets its contract.
-use borrow.Author.Rules.{rules}
 use borrow.Author.Tests.{not-true, not-false}
 use Rattle.lookup.proofs.StandsLaws.{known-none}
 use Rattle.records.specs.View.{view_key}
@@ -7,7 +6,6 @@ use Rattle.forms.specs.View.{view_id_at}
 use Rattle.root_file.specs.View.{view_key_at}
 use Rattle.root_file.proofs.KeepLaws.{nothing}
 use Rattle.root_file.proofs.KeyLaws.{no-keyid, no_keytype, no_scheme, key-is}
-use Rattle.std.proofs.Common.{arith, rules}
 use Rattle.root_file.proofs.key_at.Goals as goal
 
 pub returns-then-not-id : goal.returns-then-not-id

@@ -1,7 +1,5 @@
 -- `keyids_field` meets its contract.
-use borrow.Author.Rules.{rules}
 use Rattle.root_file.proofs.OwnLaws.{table_none, table_at}
-use Rattle.std.proofs.Common.{arith, rules}
 use Rattle.root_file.proofs.keyids_field.Goals as goal
 
 pub returns-in-Nothing : goal.returns-in-Nothing

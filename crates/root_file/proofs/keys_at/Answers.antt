@@ -1,5 +1,4 @@
 -- `keys_at` meets its contract.
-use borrow.Author.Rules.{rules}
 use mathlib.Core.Path.{sym, ap, ◌∙◌}
 use borrow.Author.Tests.{not-true, not-false}
 use Rattle.lookup.proofs.StandsLaws.{known-none}
@@ -7,7 +6,6 @@ use Rattle.rules.specs.Forms.{different}
 use Rattle.root_file.specs.View.{view_keys_at}
 use Rattle.root_file.proofs.KeepLaws.{nothing}
 use Rattle.root_file.proofs.TableLaws.{publics, no_table_lem, table_is}
-use Rattle.std.proofs.Common.{arith, rules}
 use Rattle.root_file.proofs.keys_at.Goals as goal
 
 pub returns-then-not-read : goal.returns-then-not-read

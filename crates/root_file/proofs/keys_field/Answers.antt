@@ -1,10 +1,8 @@
 -- `keys_field` meets its contract.
-use borrow.Author.Rules.{rules}
 use Rattle.lookup.proofs.StandsLaws.{end_of-none, end_of-found}
 use Rattle.forms.proofs.StepLaws.{must-none, must-at}
 use Rattle.envelope.proofs.OpenLaws.{cut}
 use Rattle.root_file.specs.View.{view_keys_at}
-use Rattle.std.proofs.Common.{arith, rules}
 use Rattle.root_file.proofs.keys_field.Goals as goal
 
 pub returns-in-Nothing : goal.returns-in-Nothing

@@ -1,20 +1,14 @@
-use borrow.Author.Rules.{rules}
 use mathlib.Core.Path.{refl, ◌∙◌}
-use Prim.Native.Nat.{◌≤◌}
 use native.Mathlib.Omega.{arith}
 use borrow.Author.Tests.{not-true, not-false}
-use Rattle.canonical_json.specs.Json.{Json}
-use Rattle.lookup.specs.Place.{Stands}
 use Rattle.lookup.proofs.StandsLaws.{known-none}
-use Rattle.lookup.proofs.ItemLaws.{ahead, ahead-less}
-use Rattle.lookup.proofs.EndLaws.{WalksItems, items-first, items-next, items-over}
-use Rattle.rules.specs.Limits.{max_keyids}
+use Rattle.lookup.proofs.ItemLaws.{ahead-less}
+use Rattle.lookup.proofs.EndLaws.{items-first, items-next, items-over}
 use Rattle.forms.specs.View.{view_id_at}
 use Rattle.envelope.proofs.OpenLaws.{held}
 use Rattle.root_file.specs.View.{view_naming_at}
 use Rattle.root_file.proofs.KeepLaws.{nothing, takes_none, takes_some}
-use Rattle.root_file.proofs.RoleLaws.{Gathered, gathered_first, no-keyids, few-keyids, naming-is, many-keyids, no-keyid, other-keyid, same-keyid, gathered_next}
-use Rattle.std.proofs.Common.{rules}
+use Rattle.root_file.proofs.RoleLaws.{gathered_first, no-keyids, few-keyids, naming-is, many-keyids, no-keyid, other-keyid, same-keyid, gathered_next}
 use Rattle.root_file.proofs.naming_at.Goals as goal
 
 pub loop-e-init : goal.loop-e-init

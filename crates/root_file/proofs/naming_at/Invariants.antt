@@ -1,20 +1,11 @@
 -- `naming_at` meets its contract. The invariant: the bits are the keyids read, the elements left decide the whole, and the walk ends where the array does.
-use borrow.Author.Rules.{rules}
-use mathlib.Core.Path.{refl, ◌∙◌}
 use Prim.Native.Nat.{◌≤◌}
-use native.Mathlib.Omega.{arith}
-use borrow.Author.Tests.{not-true, not-false}
 use Rattle.canonical_json.specs.Json.{Json}
 use Rattle.lookup.specs.Place.{Stands}
-use Rattle.lookup.proofs.StandsLaws.{known-none}
-use Rattle.lookup.proofs.ItemLaws.{ahead, ahead-less}
-use Rattle.lookup.proofs.EndLaws.{WalksItems, items-first, items-next, items-over}
+use Rattle.lookup.proofs.ItemLaws.{ahead}
+use Rattle.lookup.proofs.EndLaws.{WalksItems}
 use Rattle.rules.specs.Limits.{max_keyids}
-use Rattle.forms.specs.View.{view_id_at}
-use Rattle.envelope.proofs.OpenLaws.{held}
-use Rattle.root_file.specs.View.{view_naming_at}
-use Rattle.root_file.proofs.KeepLaws.{nothing, takes_none, takes_some}
-use Rattle.root_file.proofs.RoleLaws.{Gathered, gathered_first, no-keyids, few-keyids, naming-is, many-keyids, no-keyid, other-keyid, same-keyid, gathered_next}
+use Rattle.root_file.proofs.RoleLaws.{Gathered}
 use Rattle.root_file.proofs.naming_at.Given as goal
 
 abbrev pub invariant-loop-e : goal.invariant-loop-e

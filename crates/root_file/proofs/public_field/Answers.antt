@@ -1,10 +1,8 @@
 -- `public_field` meets its contract.
-use borrow.Author.Rules.{rules}
 use mathlib.Core.Path.{refl}
 use Rattle.canonical_json.specs.Fields.{keep}
 use Rattle.forms.specs.View.{view_id_at}
 use Rattle.forms.proofs.StepLaws.{must-none, must-at}
-use Rattle.std.proofs.Common.{arith, rules}
 use Rattle.root_file.proofs.public_field.Goals as goal
 
 pub returns-in-Nothing : goal.returns-in-Nothing

@@ -1,12 +1,7 @@
-use borrow.Author.Rules.{rules}
 use native.Mathlib.Omega.{arith}
-use Prim.Native.Nat.{◌-◌}
-use mathlib.Core.Path.{◌≡◌, refl, sym, ◌∙◌}
-use Rattle.rules.specs.Forms.{different}
+use mathlib.Core.Path.{sym, ◌∙◌}
 use Rattle.records.specs.View.{key_at}
-use Rattle.root_file.specs.View.{publics_from}
 use Rattle.root_file.proofs.TableLaws.{differ-not, differ-next, differ-end}
-use Rattle.std.proofs.Common.{rules}
 use Rattle.root_file.proofs.publics_differ.Goals as goal
 
 pub returns-then-has_public : goal.returns-then-has_public

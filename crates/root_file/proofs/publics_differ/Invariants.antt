@@ -1,12 +1,8 @@
 -- `publics_differ`: the public values from place i on decide.
-use borrow.Author.Rules.{rules}
-use native.Mathlib.Omega.{arith}
 use Prim.Native.Nat.{◌-◌}
-use mathlib.Core.Path.{◌≡◌, refl, sym, ◌∙◌}
+use mathlib.Core.Path.{◌≡◌}
 use Rattle.rules.specs.Forms.{different}
-use Rattle.records.specs.View.{key_at}
 use Rattle.root_file.specs.View.{publics_from}
-use Rattle.root_file.proofs.TableLaws.{differ-not, differ-next, differ-end}
 use Rattle.root_file.proofs.publics_differ.Given as goal
 
 abbrev pub invariant-loop-i : goal.invariant-loop-i

@@ -1,5 +1,4 @@
 -- `read_root` meets its contract.
-use borrow.Author.Rules.{rules}
 use mathlib.Core.Path.{refl, sym, ap, ◌∙◌}
 use mathlib.Core.Option.{some}
 use borrow.Author.Tests.{not-true, not-false}
@@ -11,7 +10,6 @@ use Rattle.envelope.proofs.RoleLaws.{role-refused, role-broken, role_headless, r
 use Rattle.root_file.specs.Body.{root_kept}
 use Rattle.root_file.specs.View.{view_root_at, view_root_read}
 use Rattle.root_file.proofs.FileLaws.{keep_file, root_by-body}
-use Rattle.std.proofs.Common.{arith, rules}
 use Rattle.root_file.proofs.read_root.Goals as goal
 
 pub returns-then-opened-ne0 : goal.returns-then-opened-ne0

@@ -1,5 +1,4 @@
 -- `role_at` meets its contract.
-use borrow.Author.Rules.{rules}
 use mathlib.Core.Path.{refl, sym, ap, ◌∙◌}
 use borrow.Author.Tests.{not-true, not-false}
 use Rattle.lookup.specs.Leaves.{view_number}
@@ -8,7 +7,6 @@ use Rattle.envelope.proofs.OpenLaws.{held}
 use Rattle.root_file.specs.View.{view_naming_at, view_role_at}
 use Rattle.root_file.proofs.KeepLaws.{nothing}
 use Rattle.root_file.proofs.RoleLaws.{no_naming, no-threshold, role-is}
-use Rattle.std.proofs.Common.{arith, rules}
 use Rattle.root_file.proofs.role_at.Goals as goal
 
 pub returns-then-not-named : goal.returns-then-not-named

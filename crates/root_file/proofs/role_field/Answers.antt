@@ -1,9 +1,7 @@
 -- `role_field` meets its contract.
-use borrow.Author.Rules.{rules}
 use Rattle.forms.proofs.StepLaws.{must-none, must-at}
 use Rattle.envelope.proofs.OpenLaws.{cut}
 use Rattle.root_file.specs.View.{view_role_at}
-use Rattle.std.proofs.Common.{arith, rules}
 use Rattle.root_file.proofs.role_field.Goals as goal
 
 pub returns-in-Nothing : goal.returns-in-Nothing

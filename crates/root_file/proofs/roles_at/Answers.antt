@@ -1,11 +1,9 @@
 -- `roles_at` meets its contract.
-use borrow.Author.Rules.{rules}
 use borrow.Author.Tests.{not-true, not-false}
 use Rattle.lookup.proofs.StandsLaws.{known-none}
 use Rattle.root_file.specs.View.{view_role_at, view_roles_at}
 use Rattle.root_file.proofs.KeepLaws.{nothing}
 use Rattle.root_file.proofs.BodyLaws.{no_root-role, no-timestamp_role, no-snapshot_role, roles_are}
-use Rattle.std.proofs.Common.{arith, rules}
 use Rattle.root_file.proofs.roles_at.Goals as goal
 
 pub returns-then-not-a : goal.returns-then-not-a

@@ -1,11 +1,9 @@
 -- `root_at` meets its contract.
-use borrow.Author.Rules.{rules}
 use borrow.Author.Tests.{not-true, not-false}
 use Rattle.lookup.proofs.StandsLaws.{end_of-none}
 use Rattle.root_file.specs.View.{view_keys_at, view_roles_at, view_root_at}
 use Rattle.root_file.proofs.KeepLaws.{nothing}
 use Rattle.root_file.proofs.BodyLaws.{no_truth, no_keys, body_is}
-use Rattle.std.proofs.Common.{arith, rules}
 use Rattle.root_file.proofs.root_at.Goals as goal
 
 pub returns-then-not-has_snapshot_rule : goal.returns-then-not-has_snapshot_rule

@@ -1,25 +1,17 @@
 -- `table_at` meets its contract. The invariant: n keys are read, the members left decide the whole, and the walk ends where the object does.
-use borrow.Author.Rules.{rules}
-use mathlib.Core.Path.{◌≡◌, refl, ◌∙◌}
+use mathlib.Core.Path.{◌≡◌}
 use Prim.Native.Nat.{◌≤◌}
-use native.Mathlib.Omega.{arith}
-use borrow.Author.Tests.{not-true, not-false}
-use lib.ListN.{length, length-set}
+use lib.ListN.{length}
 use Rattle.canonical_json.specs.Json.{Json}
 use Rattle.lookup.specs.Place.{Stands}
-use Rattle.lookup.proofs.StandsLaws.{known-none}
-use Rattle.lookup.proofs.MemberLaws.{ahead, ahead-less}
-use Rattle.lookup.proofs.EndLaws.{Walks, walks_first, walks_next, walks_end}
+use Rattle.lookup.proofs.MemberLaws.{ahead}
+use Rattle.lookup.proofs.EndLaws.{Walks}
 use Rattle.rules.specs.Limits.{max_keys}
 use Rattle.rules.specs.Forms.{key}
 use Rattle.records.specs.View.{view_key, no_key}
 use Rattle.forms.specs.Each.{each_member}
-use Rattle.forms.proofs.ArrayLaws.{front, front-none, front-more}
-use Rattle.forms.proofs.EachLaws.{MembersWalk, members-first, members-none, members-few, members-over, members-full, members-broken, members-next}
-use Rattle.envelope.proofs.OpenLaws.{held}
-use Rattle.root_file.specs.View.{view_key_at, view_keys_at}
-use Rattle.root_file.proofs.KeepLaws.{nothing, takes_none, takes_some}
-use Rattle.root_file.proofs.TableLaws.{filled}
+use Rattle.forms.proofs.ArrayLaws.{front}
+use Rattle.forms.proofs.EachLaws.{MembersWalk}
 use Rattle.root_file.proofs.table_at.Given as goal
 
 abbrev pub invariant-loop-m : goal.invariant-loop-m

@@ -1,10 +1,8 @@
 -- `digest_place` meets its contract.
-use borrow.Author.Rules.{rules}
 use mathlib.Core.Path.{refl}
 use Rattle.rules.specs.Forms.{sha256}
 use Rattle.forms.specs.View.{undone_at}
 use Rattle.forms.proofs.StepLaws.{must-none, must-at}
-use Rattle.std.proofs.Common.{arith, rules}
 use Rattle.targets_file.proofs.digest_place.Goals as goal
 
 pub returns-in-Nothing : goal.returns-in-Nothing

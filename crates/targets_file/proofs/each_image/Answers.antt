@@ -1,14 +1,12 @@
-use borrow.Author.Rules.{rules}
 use native.Mathlib.Omega.{arith}
 use borrow.Author.Tests.{not-true, not-false}
 use Rattle.canonical_json.specs.Fields.{keep}
 use Rattle.lookup.proofs.StandsLaws.{known-none}
-use Rattle.lookup.proofs.MemberLaws.{ahead, ahead-less}
-use Rattle.lookup.proofs.EndLaws.{Walks, walks_first, walks_next, walks_end}
+use Rattle.lookup.proofs.MemberLaws.{ahead-less}
+use Rattle.lookup.proofs.EndLaws.{walks_first, walks_next, walks_end}
 use Rattle.targets_file.specs.View.{view_images}
 use Rattle.targets_file.specs.Pass.{going}
-use Rattle.targets_file.proofs.ImageLaws.{Pass, pass_first, pass_over, pass_none, pass_full, pass_broken, pass_next}
-use Rattle.std.proofs.Common.{rules}
+use Rattle.targets_file.proofs.ImageLaws.{pass_first, pass_over, pass_none, pass_full, pass_broken, pass_next}
 use Rattle.targets_file.proofs.each_image.Goals as goal
 
 pub loop-m-init : goal.loop-m-init

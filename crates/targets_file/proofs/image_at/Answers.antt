@@ -1,8 +1,6 @@
 -- `image_at` meets its contract.
-use borrow.Author.Rules.{rules}
 use native.Mathlib.Omega.{arith}
 use Rattle.targets_file.proofs.ImageLaws.{path_empty, path-long, reads-named, broken-name}
-use Rattle.std.proofs.Common.{rules}
 use Rattle.targets_file.proofs.image_at.Goals as goal
 
 pub returns-then-name_length-lt1 : goal.returns-then-name_length-lt1

@@ -1,8 +1,6 @@
 -- `images_field` meets its contract.
-use borrow.Author.Rules.{rules}
 use Rattle.lookup.proofs.StandsLaws.{end_of-none, end_of-found}
 use Rattle.forms.proofs.StepLaws.{must-none, must-at}
-use Rattle.std.proofs.Common.{arith, rules}
 use Rattle.targets_file.proofs.images_field.Goals as goal
 
 pub returns-in-Nothing : goal.returns-in-Nothing

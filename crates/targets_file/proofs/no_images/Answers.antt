@@ -1,9 +1,7 @@
 -- `no_images` meets its contract.
-use borrow.Author.Rules.{rules}
 use mathlib.Core.Path.{refl}
 use Rattle.canonical_json.specs.Fields.{keep}
 use Rattle.targets_file.specs.View.{view_images}
-use Rattle.std.proofs.Common.{arith, rules}
 use Rattle.targets_file.proofs.no_images.Goals as goal
 
 pub returns : goal.returns

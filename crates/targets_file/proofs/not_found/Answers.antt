@@ -2,7 +2,6 @@
 use mathlib.Core.Path.{refl}
 use Rattle.canonical_json.specs.Fields.{keep}
 use Rattle.targets_file.specs.View.{view_search}
-use Rattle.std.proofs.Common.{arith, rules}
 use Rattle.targets_file.proofs.not_found.Goals as goal
 
 pub returns : goal.returns

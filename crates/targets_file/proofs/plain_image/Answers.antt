@@ -4,14 +4,12 @@ use mathlib.Core.Path.{sym, ◌∙◌}
 use Prim.Native.Nat.{◌+◌, ◌*◌}
 use native.Mathlib.Omega.{arith}
 use lib.ListN.{length}
-use borrow.Author.Tests.{not-false}
 use Rattle.base.proofs.TestLaws.{never}
 use Rattle.base.proofs.ByteLaws.{stood_text, stood_within}
 use Rattle.rules.specs.Limits.{digest_size}
 use Rattle.forms.proofs.TextLaws.{digits-within}
 use Rattle.targets_file.specs.Plain.{opening, between}
 use Rattle.targets_file.proofs.PlainLaws.{plain-image}
-use Rattle.std.proofs.Common.{rules}
 use Rattle.targets_file.proofs.plain_image.Goals as goal
 
 pub returns-then-not-has_at : goal.returns-then-not-has_at

@@ -1,11 +1,9 @@
 -- `plain_length` meets its contract.
-use borrow.Author.Rules.{rules}
 use native.Mathlib.Omega.{arith}
 use mathlib.Core.Path.{refl, sym, ap, ◌∙◌}
 use Rattle.base.proofs.TestLaws.{never}
 use Rattle.lookup.specs.Leaves.{view_number}
 use Rattle.targets_file.proofs.PlainLaws.{plain-length}
-use Rattle.std.proofs.Common.{rules}
 use Rattle.targets_file.proofs.plain_length.Goals as goal
 
 pub returns-in-No : goal.returns-in-No

@@ -1,5 +1,4 @@
 -- `read_targets` meets its contract.
-use borrow.Author.Rules.{rules}
 use mathlib.Core.Bool.{true}
 use mathlib.Core.Path.{refl, sym, ap, ◌∙◌}
 use mathlib.Core.Option.{some}
@@ -11,7 +10,6 @@ use Rattle.envelope.proofs.RoleLaws.{role-refused, role-broken, role_headless, r
 use Rattle.targets_file.specs.View.{listing_in, view_images, view_targets_read}
 use Rattle.targets_file.proofs.ImageLaws.{listing_in-must}
 use Rattle.targets_file.proofs.BodyLaws.{as_seen, seen_in}
-use Rattle.std.proofs.Common.{arith, rules}
 use Rattle.targets_file.proofs.read_targets.Goals as goal
 
 pub returns-then-opened-ne0 : goal.returns-then-opened-ne0

@@ -1,5 +1,4 @@
 -- `walked_image` meets its contract.
-use borrow.Author.Rules.{rules}
 use mathlib.Core.Path.{sym, ap, ◌∙◌}
 use mathlib.Core.Option.{bind}
 use Rattle.canonical_json.specs.Fields.{keep}
@@ -8,7 +7,6 @@ use Rattle.forms.specs.View.{undone_at}
 use Rattle.forms.proofs.TextLaws.{hex-at}
 use Rattle.targets_file.specs.View.{described}
 use Rattle.targets_file.proofs.ImageLaws.{no_length, description-is, broken-image}
-use Rattle.std.proofs.Common.{arith, rules}
 use Rattle.targets_file.proofs.walked_image.Goals as goal
 
 pub returns-in-No : goal.returns-in-No

@@ -1,5 +1,4 @@
 -- `with_image` meets its contract: a name is compared where the search is not over.
-use borrow.Author.Rules.{rules}
 use mathlib.Core.Path.{ap, ◌∙◌}
 use mathlib.Core.Bool.{true}
 use mathlib.Core.Option.{some}
@@ -10,7 +9,6 @@ use Rattle.forms.specs.View.{view_id_at}
 use Rattle.forms.proofs.TextLaws.{unhex-held}
 use Rattle.targets_file.specs.View.{described, view_search}
 use Rattle.targets_file.proofs.ImageLaws.{still-over, compared-now}
-use Rattle.std.proofs.Common.{arith, rules}
 use Rattle.targets_file.proofs.with_image.Goals as goal
 
 pub returns-then-search : goal.returns-then-search
