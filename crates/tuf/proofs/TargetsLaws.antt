@@ -142,7 +142,7 @@ module _ (self : State) (q : Query) where
 
 -- a find of a file that was read and judged n
 pub record FindJudged (self : State) (q : Query) (t : TargetsRead) (n : ℕ) : Type 0 where
-  pub read_as_lem : FileRead q.path q.file t
+  pub read_as : FileRead q.path q.file t
   pub judged_as : first (find_table (view self) q read_as.targets (view_entries t.entries)) ≡ n
 
 -- what judging promises of it
@@ -151,7 +151,7 @@ pub find-judged : (self : State) (q : Query) (t : TargetsRead) → FileRead q.pa
     → FindJudged self q t n
 find-judged self q t f digest e n judge =
     record {
-      read_as_lem = f;
+      read_as = f;
       judged_as =
           sym (judge q (record { digest-is = sym e; path-is = refl }) f.targets
           (record { listed-is = image-listed q.path f.targets.body t.search f.listing-is }) (view_entries t.entries));

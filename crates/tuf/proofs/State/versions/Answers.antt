@@ -1,0 +1,9 @@
+-- `versions` meets its contract.
+use borrow.Author.Rules.{rules}
+use Rattle.tuf.specs.View.{view}
+use Rattle.std.proofs.Common.{arith, rules}
+use Rattle.tuf.proofs.State.versions.Goals as goal
+
+pub returns : goal.returns
+unfolding view
+returns c = search rules
