@@ -7,7 +7,7 @@ use lib.IntN.{ℤ, pos}
 use lib.ListN.{drop}
 use Rattle.base.specs.Bytes.{bytes}
 use Rattle.sha256.specs.Message.{digest_of}
-use Rattle.rules.specs.State.{Snapshot, State, keep_targets, Call, new_cycle, new_snapshot, new_targets, find}
+use Rattle.rules.specs.State.{State, keep_targets, Call, new_cycle, new_snapshot, new_targets, find}
 use Rattle.rules.specs.Steps.{next, installed, with_start, with_timestamp, with_snapshot, with_targets, Item, a_timestamp}
 use Rattle.rules.specs.Words.{Expired}
 use Rattle.rules.specs.Exactly.{expires_of, leans_on, FindsExpired, FindsFresh}
