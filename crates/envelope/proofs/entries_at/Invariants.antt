@@ -1,26 +1,17 @@
 -- `entries_at` meets its contract. The invariant: n keyids are read, the elements left decide the whole, and the walk ends where the array does.
-use borrow.Author.Rules.{rules}
-use mathlib.Core.Path.{◌≡◌, refl, sym, ap, ◌∙◌}
-use mathlib.Core.Option.{some}
+use mathlib.Core.Path.{◌≡◌}
 use Prim.Native.Nat.{◌≤◌}
-use native.Mathlib.Omega.{arith}
-use borrow.Author.Tests.{not-true, not-false}
-use lib.ListN.{length, length-set}
+use lib.ListN.{length}
 use Rattle.canonical_json.specs.Json.{Json}
-use Rattle.canonical_json.specs.Fields.{keep}
 use Rattle.lookup.specs.Place.{Stands}
-use Rattle.lookup.proofs.StandsLaws.{known-none}
-use Rattle.lookup.proofs.ItemLaws.{ahead, ahead-less}
+use Rattle.lookup.proofs.ItemLaws.{ahead}
 use Rattle.lookup.proofs.EndLaws as end
-use Rattle.rules.specs.Limits.{max_entries, key_size}
-use Rattle.records.specs.View.{view_id, no_id, view_entries}
-use Rattle.forms.specs.View.{view_id_at}
+use Rattle.rules.specs.Limits.{max_entries}
+use Rattle.records.specs.View.{view_id, no_id}
 use Rattle.forms.specs.Each.{each_item}
-use Rattle.forms.proofs.EachLaws.{ItemsWalk, items-first, items-none, items-over, items-full, items-broken, items-next}
-use Rattle.forms.proofs.TextLaws.{unhex-held}
-use Rattle.forms.proofs.ArrayLaws.{front, front-none, front-more, front-firsts}
-use Rattle.envelope.specs.Header.{keyid_of, view_entries_at}
-use Rattle.envelope.proofs.EntryLaws.{keyid-broken, keyid-is, keyids-each}
+use Rattle.forms.proofs.EachLaws.{ItemsWalk}
+use Rattle.forms.proofs.ArrayLaws.{front}
+use Rattle.envelope.specs.Header.{keyid_of}
 use Rattle.envelope.proofs.entries_at.Given as goal
 
 abbrev pub invariant-loop-e : goal.invariant-loop-e

@@ -1,6 +1,4 @@
 -- `entry_at` meets its contract.
-use borrow.Author.Rules.{rules}
-use Rattle.std.proofs.Common.{arith, rules}
 use Rattle.envelope.proofs.entry_at.Goals as goal
 
 pub returns-then-plain : goal.returns-then-plain

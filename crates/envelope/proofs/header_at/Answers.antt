@@ -1,5 +1,4 @@
 -- `header_at` meets its contract.
-use borrow.Author.Rules.{rules}
 use mathlib.Core.Path.{sym, ap, ◌∙◌}
 use borrow.Author.Tests.{not-true, not-false}
 use Rattle.lookup.specs.Leaves.{view_number}
@@ -7,7 +6,6 @@ use Rattle.date.specs.View.{view_date}
 use Rattle.rules.specs.Forms.{version}
 use Rattle.envelope.specs.Header.{view_spec, view_header}
 use Rattle.envelope.proofs.HeaderLaws.{no_type, no-spec, no-version, no_date, header_is}
-use Rattle.std.proofs.Common.{arith, rules}
 use Rattle.envelope.proofs.header_at.Goals as goal
 
 pub returns-then-not-word_field : goal.returns-then-not-word_field

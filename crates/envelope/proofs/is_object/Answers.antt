@@ -1,11 +1,9 @@
 -- `is_object` meets its contract.
-use borrow.Author.Rules.{rules}
 use mathlib.Core.Path.{◌≡◌, sym, ◌∙◌}
 use Prim.Native.Nat.{ℕ}
 use native.Mathlib.Omega.{arith}
 use Rattle.canonical_json.specs.Fields.{keep}
 use Rattle.envelope.proofs.ObjectLaws.{not-object, is-object}
-use Rattle.std.proofs.Common.{rules}
 use Rattle.envelope.proofs.is_object.Goals as goal
 
 pub returns-in-NoObject : goal.returns-in-NoObject

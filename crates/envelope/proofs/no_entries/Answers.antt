@@ -1,9 +1,7 @@
 -- `no_entries` meets its contract.
-use borrow.Author.Rules.{rules}
 use mathlib.Core.Path.{refl}
 use Rattle.canonical_json.specs.Fields.{keep}
 use Rattle.envelope.specs.Header.{view_entries_at}
-use Rattle.std.proofs.Common.{arith, rules}
 use Rattle.envelope.proofs.no_entries.Goals as goal
 
 pub returns : goal.returns

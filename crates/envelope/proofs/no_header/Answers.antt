@@ -2,7 +2,6 @@
 use mathlib.Core.Path.{refl}
 use Rattle.canonical_json.specs.Fields.{keep}
 use Rattle.envelope.specs.Header.{view_header}
-use Rattle.std.proofs.Common.{arith, rules}
 use Rattle.envelope.proofs.no_header.Goals as goal
 
 pub returns : goal.returns

@@ -1,8 +1,6 @@
 -- `one_dot` meets its contract.
-use borrow.Author.Rules.{rules}
 use Rattle.lookup.proofs.StringLaws.{char_close, char_byte}
 use Rattle.envelope.proofs.HeaderLaws.{dot_none, dot_first, dot_short, dot_is}
-use Rattle.std.proofs.Common.{arith, rules}
 use Rattle.envelope.proofs.one_dot.Goals as goal
 
 pub returns-in-Close : goal.returns-in-Close

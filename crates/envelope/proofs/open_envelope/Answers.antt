@@ -1,5 +1,4 @@
 -- `open_envelope` meets its contract.
-use borrow.Author.Rules.{rules}
 use mathlib.Core.Path.{refl, sym, ◌∙◌}
 use mathlib.Core.List.{[]}
 use mathlib.Core.Bool.{false}
@@ -9,7 +8,6 @@ use Rattle.canonical_json.specs.Fields.{keep}
 use Rattle.forms.proofs.StepLaws.{must-none, must-at}
 use Rattle.envelope.specs.Header.{view_entries_at}
 use Rattle.envelope.proofs.OpenLaws.{opens-long, opens-other, opens_unsigned, opens-nothing, opens_scalar, opens-all}
-use Rattle.std.proofs.Common.{arith, rules}
 use Rattle.envelope.proofs.open_envelope.Goals as goal
 
 pub returns-then-file-gt-MAX_FILE : goal.returns-then-file-gt-MAX_FILE

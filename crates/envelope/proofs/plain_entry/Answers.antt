@@ -1,10 +1,8 @@
 -- `plain_entry`: the bytes that were compared are the text of one entry.
-use borrow.Author.Rules.{rules}
 use mathlib.Core.Path.{refl, sym, ◌∙◌}
 use Prim.Native.Nat.{◌+◌, ◌*◌}
 use native.Mathlib.Omega.{arith}
 use lib.ListN.{length}
-use borrow.Author.Tests.{not-false}
 use Rattle.base.proofs.TestLaws.{never}
 use Rattle.base.proofs.ByteLaws.{stood_text, stood_within}
 use Rattle.rules.specs.Limits.{key_size, signature_size}

@@ -1,11 +1,9 @@
 -- `spec_at` meets its contract.
-use borrow.Author.Rules.{rules}
 use mathlib.Core.Path.{refl, ap}
 use mathlib.Core.Option.{some}
 use Rattle.canonical_json.specs.Fields.{keep}
 use Rattle.forms.proofs.StepLaws.{text-none, text_at}
 use Rattle.envelope.specs.Header.{spec_known, view_spec}
-use Rattle.std.proofs.Common.{arith, rules}
 use Rattle.envelope.proofs.spec_at.Goals as goal
 
 pub returns-in-Nothing : goal.returns-in-Nothing

@@ -1,10 +1,8 @@
 -- `spec_field` meets its contract.
-use borrow.Author.Rules.{rules}
 use mathlib.Core.Path.{refl}
 use Rattle.canonical_json.specs.Fields.{keep}
 use Rattle.forms.proofs.StepLaws.{must-none, must-at}
 use Rattle.envelope.specs.Header.{view_spec}
-use Rattle.std.proofs.Common.{arith, rules}
 use Rattle.envelope.proofs.spec_field.Goals as goal
 
 pub returns-in-Nothing : goal.returns-in-Nothing

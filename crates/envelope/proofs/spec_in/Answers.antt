@@ -1,8 +1,6 @@
 -- `spec_in` meets its contract.
-use borrow.Author.Rules.{rules}
 use mathlib.Core.Path.{sym, ◌∙◌}
 use Rattle.envelope.proofs.HeaderLaws.{spec-one, spec_dot}
-use Rattle.std.proofs.Common.{arith, rules}
 use Rattle.envelope.proofs.spec_in.Goals as goal
 
 pub returns-then-text_is : goal.returns-then-text_is

@@ -1,12 +1,10 @@
 -- `walked_entry` meets its contract.
-use borrow.Author.Rules.{rules}
 use mathlib.Core.Path.{sym, ap, ◌∙◌}
 use Rattle.canonical_json.specs.Fields.{keep}
 use Rattle.forms.specs.View.{undone_at}
 use Rattle.forms.proofs.TextLaws.{hex-at}
 use Rattle.envelope.specs.Header.{view_entry}
 use Rattle.envelope.proofs.EntryLaws.{no-keyid, no-sig, entry-is, broken-entry}
-use Rattle.std.proofs.Common.{arith, rules}
 use Rattle.envelope.proofs.walked_entry.Goals as goal
 
 pub returns-in-Nothing : goal.returns-in-Nothing

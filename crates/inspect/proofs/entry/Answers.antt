@@ -1,6 +1,5 @@
 -- `entry` meets its contract.
 use mathlib.Core.Path.{◌∙◌}
-use borrow.Author.Rules.{rules}
 use Rattle.rules.specs.Asked.{the_entry}
 use Rattle.rules.specs.Limits.{key_size, signature_size}
 use Rattle.forms.specs.View.{view_id_at, view_sig}
@@ -8,7 +7,6 @@ use Rattle.forms.proofs.TextLaws.{unhex-held}
 use Rattle.envelope.specs.Header.{view_entry}
 use Rattle.inspect.specs.View.{view_entry_read}
 use Rattle.inspect.proofs.AskedLaws.{entry_of, asked-refused, asked-none, asked-some}
-use Rattle.std.proofs.Common.{arith, rules}
 use Rattle.inspect.proofs.entry.Goals as goal
 
 pub returns-then-opened-ne0 : goal.returns-then-opened-ne0

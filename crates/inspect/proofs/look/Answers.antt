@@ -4,8 +4,6 @@ use native.Mathlib.Omega.{arith}
 use Rattle.lookup.proofs.StandsLaws.{place_after}
 use Rattle.inspect.specs.View.{view_look}
 use Rattle.inspect.proofs.LookLaws.{look-refused, look-endless, look_is}
-use borrow.Author.Rules.{rules}
-use Rattle.std.proofs.Common.{rules}
 use Rattle.inspect.proofs.look.Goals as goal
 
 pub returns-then-opened-ne0 : goal.returns-then-opened-ne0
@@ -20,7 +18,7 @@ returns-in-Nothing c =
     look-endless c.args.file.now o.result o.ensures c.if-opened-ne0.false e.result e.ensures (λ l. view_look c.no_look-in-Nothing.result ≡ l) c.in-Nothing.is
 
 pub overflow_sub-result : goal.overflow_sub-result
-overflow_sub-result c =    let p = (place_after c.args.file.now _ _ c.value_end.ensures.onward _ c.in-At.is).0 in omega arith
+overflow_sub-result c = let p = (place_after c.args.file.now _ _ c.value_end.ensures.onward _ c.in-At.is).0 in omega arith
 
 pub returns-in-At : goal.returns-in-At
 unfolding view_look

@@ -4,7 +4,6 @@ use Rattle.base.specs.Window.{run, byte_at, window}
 use Rattle.rules.specs.Asked.{no_entry}
 use Rattle.records.specs.View.{view_id}
 use Rattle.inspect.specs.View.{view_entry_read}
-use Rattle.std.proofs.Common.{arith, rules}
 use Rattle.inspect.proofs.no_entry.Goals as goal
 
 pub returns : goal.returns

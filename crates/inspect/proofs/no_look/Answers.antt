@@ -1,7 +1,6 @@
 -- `no_look` meets its contract.
-use borrow.Author.Rules.{rules}
 use Rattle.inspect.specs.View.{view_look, no_look}
-use Rattle.std.proofs.Common.{arith, rules}
+use Rattle.std.proofs.Common.{rules}
 use Rattle.inspect.proofs.no_look.Goals as goal
 
 pub returns : goal.returns

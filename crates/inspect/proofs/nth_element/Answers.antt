@@ -1,10 +1,5 @@
-use borrow.Author.Rules.{rules}
-use Rattle.canonical_json.specs.Json.{Json}
-use Rattle.lookup.specs.Place.{Stands}
-use Rattle.lookup.proofs.ItemLaws.{ahead, ahead-less}
-use Rattle.inspect.specs.Elements.{element_at}
-use Rattle.inspect.proofs.ElementLaws.{NthLeft, nth-first, nth-none, nth_end, nth_here, nth-next}
-use Rattle.std.proofs.Common.{arith, rules}
+use Rattle.lookup.proofs.ItemLaws.{ahead-less}
+use Rattle.inspect.proofs.ElementLaws.{nth-first, nth-none, nth_end, nth_here, nth-next}
 use Rattle.inspect.proofs.nth_element.Goals as goal
 
 pub loop-e-init : goal.loop-e-init
@@ -16,7 +11,7 @@ returns-then-left-eq0 c =
     λ v h. nth_here c.args.s.now l.e l.left _ (l.invariant v h) _ c.in-At.is c.if-left-eq0.true
 
 pub loop-e-smaller : goal.loop-e-smaller
-loop-e-smaller c =    ahead-less c.args.s.now c.loop-e.e _ c.in-At.is c.next_element-e.result c.next_element-e.ensures.onward
+loop-e-smaller c = ahead-less c.args.s.now c.loop-e.e _ c.in-At.is c.next_element-e.result c.next_element-e.ensures.onward
 
 pub loop-e-preserved : goal.loop-e-preserved
 loop-e-preserved c =

@@ -1,10 +1,9 @@
 -- `nth_element` meets its contract. The invariant: the element sought is at place `left` of those that are left.
-use borrow.Author.Rules.{rules}
 use Rattle.canonical_json.specs.Json.{Json}
 use Rattle.lookup.specs.Place.{Stands}
-use Rattle.lookup.proofs.ItemLaws.{ahead, ahead-less}
+use Rattle.lookup.proofs.ItemLaws.{ahead}
 use Rattle.inspect.specs.Elements.{element_at}
-use Rattle.inspect.proofs.ElementLaws.{NthLeft, nth-first, nth-none, nth_end, nth_here, nth-next}
+use Rattle.inspect.proofs.ElementLaws.{NthLeft}
 use Rattle.inspect.proofs.nth_element.Given as goal
 
 abbrev pub invariant-loop-e : goal.invariant-loop-e

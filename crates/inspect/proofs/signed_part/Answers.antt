@@ -1,11 +1,10 @@
 -- `signed_part` meets its contract: the part lies in the file, and it is the file's own memory from its place on.
 use mathlib.Core.Path.{refl, ap}
 use Prim.Native.Nat.{◌+◌}
-use borrow.Author.Rules.{rules}
 use Rattle.rules.specs.Asked.{Look}
 use Rattle.inspect.specs.View.{view_look}
 use Rattle.inspect.proofs.LookLaws.{inside, part-is}
-use Rattle.std.proofs.Common.{arith, rules}
+use Rattle.std.proofs.Common.{rules}
 use Rattle.inspect.proofs.signed_part.Goals as goal
 
 pub slice_bounds-result-end : goal.slice_bounds-result-end

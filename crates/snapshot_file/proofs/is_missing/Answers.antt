@@ -1,7 +1,5 @@
 -- `is_missing` meets its contract.
-use borrow.Author.Rules.{rules}
 use mathlib.Core.Path.{refl}
-use Rattle.std.proofs.Common.{arith, rules}
 use Rattle.snapshot_file.proofs.is_missing.Goals as goal
 
 pub returns-in-Nothing : goal.returns-in-Nothing

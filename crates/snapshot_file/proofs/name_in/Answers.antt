@@ -1,11 +1,9 @@
 -- `name_in` meets its contract.
-use borrow.Author.Rules.{rules}
 use mathlib.Core.Path.{refl}
 use native.Mathlib.Omega.{arith}
 use Rattle.canonical_json.specs.Fields.{keep}
 use Rattle.snapshot_file.specs.View.{view_name_at}
 use Rattle.snapshot_file.proofs.NameLaws.{name-empty, name-is}
-use Rattle.std.proofs.Common.{rules}
 use Rattle.snapshot_file.proofs.name_in.Goals as goal
 
 pub returns-then-length-lt1 : goal.returns-then-length-lt1

@@ -1,5 +1,4 @@
 -- `named_at` meets its contract.
-use borrow.Author.Rules.{rules}
 use mathlib.Core.Path.{◌∙◌}
 use borrow.Author.Tests.{not-true, not-false}
 use Rattle.lookup.proofs.StandsLaws.{known-none}
@@ -7,7 +6,6 @@ use Rattle.records.specs.View.{view_named}
 use Rattle.forms.specs.View.{view_listed_at}
 use Rattle.snapshot_file.specs.View.{view_name_at, view_named_at}
 use Rattle.snapshot_file.proofs.NameLaws.{no_name, named-is}
-use Rattle.std.proofs.Common.{arith, rules}
 use Rattle.snapshot_file.proofs.named_at.Goals as goal
 
 pub returns-then-not-read : goal.returns-then-not-read

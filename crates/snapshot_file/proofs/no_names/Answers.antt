@@ -1,9 +1,7 @@
 -- `no_names` meets its contract.
-use borrow.Author.Rules.{rules}
 use mathlib.Core.Path.{refl}
 use Rattle.canonical_json.specs.Fields.{keep}
 use Rattle.snapshot_file.specs.View.{view_names_at}
-use Rattle.std.proofs.Common.{arith, rules}
 use Rattle.snapshot_file.proofs.no_names.Goals as goal
 
 pub returns : goal.returns

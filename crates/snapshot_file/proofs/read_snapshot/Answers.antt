@@ -1,5 +1,4 @@
 -- `read_snapshot` meets its contract.
-use borrow.Author.Rules.{rules}
 use mathlib.Core.Bool.{true}
 use mathlib.Core.Path.{refl}
 use borrow.Author.Tests.{not-true, not-false}
@@ -10,7 +9,6 @@ use Rattle.rules.specs.Reading.{no_table, read_snapshot}
 use Rattle.rules.specs.State.{keep_snapshot, snapshot_in}
 use Rattle.records.specs.View.{view_snapshot}
 use Rattle.snapshot_file.specs.View.{view_names_at, view_snapshot_read}
-use Rattle.std.proofs.Common.{arith, rules}
 use Rattle.snapshot_file.proofs.read_snapshot.Goals as goal
 
 pub returns-then-opened-ne0 : goal.returns-then-opened-ne0

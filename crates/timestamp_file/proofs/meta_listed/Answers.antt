@@ -1,8 +1,6 @@
 -- `meta_listed` meets its contract.
-use borrow.Author.Rules.{rules}
 use Rattle.lookup.proofs.StandsLaws.{end_of-none, end_of-found}
 use Rattle.forms.proofs.StepLaws.{must-none, must-at}
-use Rattle.std.proofs.Common.{arith, rules}
 use Rattle.timestamp_file.proofs.meta_listed.Goals as goal
 
 pub returns-in-Nothing : goal.returns-in-Nothing

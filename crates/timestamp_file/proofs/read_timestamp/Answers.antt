@@ -1,5 +1,4 @@
 -- `read_timestamp` meets its contract.
-use borrow.Author.Rules.{rules}
 use mathlib.Core.Bool.{true}
 use mathlib.Core.Path.{refl}
 use borrow.Author.Tests.{not-true, not-false}
@@ -11,7 +10,6 @@ use Rattle.rules.specs.State.{keep_timestamp, timestamp_in}
 use Rattle.records.specs.View.{view_timestamp}
 use Rattle.forms.specs.View.{view_listed_at}
 use Rattle.timestamp_file.specs.View.{view_timestamp_read}
-use Rattle.std.proofs.Common.{arith, rules}
 use Rattle.timestamp_file.proofs.read_timestamp.Goals as goal
 
 pub returns-then-opened-ne0 : goal.returns-then-opened-ne0

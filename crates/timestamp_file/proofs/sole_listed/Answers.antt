@@ -1,15 +1,12 @@
 -- `sole_listed` meets its contract.
-use borrow.Author.Rules.{rules}
 use mathlib.Core.Path.{◌≡◌, refl, sym, ◌∙◌}
 use Prim.Native.Nat.{ℕ}
 use native.Mathlib.Omega.{arith}
-use borrow.Author.Tests.{not-true, not-false}
 use Rattle.lookup.specs.declared.Found.TheVariants.{Nothing, At}
 use Rattle.lookup.proofs.StandsLaws.{known-none}
 use Rattle.lookup.proofs.EndLaws.{walks_first, walks_next, walks_end}
 use Rattle.forms.specs.View.{view_listed_at}
 use Rattle.timestamp_file.proofs.OnlyLaws.{only_none, only_end, only-other, only-more, only_one, sole_none, sole-at}
-use Rattle.std.proofs.Common.{rules}
 use Rattle.timestamp_file.proofs.sole_listed.Goals as goal
 
 pub returns-in-NoObject : goal.returns-in-NoObject
