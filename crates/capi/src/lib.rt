@@ -1,5 +1,5 @@
-// The calls of `tuf` for C and Rust: each exported function has the contract of the call that it wraps. An answer is 01's number; a state
-// goes in and comes back by value; bytes are lent as a pointer and a length. include/gronwythal.h is the other side of this file.
+// The calls of `tuf` for C and Rust: each function has the contract of the call that it wraps. An answer is 01's number; a state goes in and
+// comes back by value; bytes are lent as a pointer and a length. `capi_c` exports each under its name; include/gronwythal.h is the other side.
 #![tactic(auto)]
 
 ghost use Rattle.std.specs.Prelude.{◌≡◌, true, ◌↔◌};
@@ -74,57 +74,49 @@ fn numbered(step: tuf::Step) -> Step
 
 // ---- The calls, in the order of 01's steps
 
-#[unsafe(no_mangle)]
-pub extern "C" fn gronwythal_blank() -> State
+pub fn gronwythal_blank() -> State
     ensures { view result ≡ blank_state }
 {
     State::blank()
 }
 
-#[unsafe(no_mangle)]
-pub extern "C" fn gronwythal_install(file: &[u8], row: &[u8], start: i64) -> Step
+pub fn gronwythal_install(file: &[u8], row: &[u8], start: i64) -> Step
     ensures { Began (record { file = file.entry.now; row = row.now; start = start }) result.answer (view result.state) }
 {
     numbered(State::install(file, row, Time { seconds: start }))
 }
 
-#[unsafe(no_mangle)]
-pub extern "C" fn gronwythal_new_cycle(state: State, start: i64) -> Step
+pub fn gronwythal_new_cycle(state: State, start: i64) -> Step
     ensures { Steps state (new_cycle start) result.answer result.state }
 {
     numbered(state.new_cycle(Time { seconds: start }))
 }
 
-#[unsafe(no_mangle)]
-pub extern "C" fn gronwythal_root(state: State, file: &[u8], held: &[u8], own: &[u8]) -> Step
+pub fn gronwythal_root(state: State, file: &[u8], held: &[u8], own: &[u8]) -> Step
     ensures { Steps state (new_root (record { file = file.entry.now; held_row = held.now; own_row = own.now })) result.answer result.state }
 {
     numbered(state.root(file, held, own))
 }
 
-#[unsafe(no_mangle)]
-pub extern "C" fn gronwythal_timestamp(state: State, file: &[u8], row: &[u8]) -> Step
+pub fn gronwythal_timestamp(state: State, file: &[u8], row: &[u8]) -> Step
     ensures { Steps state (new_timestamp (record { file = file.entry.now; row = row.now })) result.answer result.state }
 {
     numbered(state.timestamp(file, row))
 }
 
-#[unsafe(no_mangle)]
-pub extern "C" fn gronwythal_snapshot(state: State, file: &[u8], row: &[u8]) -> Step
+pub fn gronwythal_snapshot(state: State, file: &[u8], row: &[u8]) -> Step
     ensures { Steps state (new_snapshot (record { file = file.entry.now; row = row.now })) result.answer result.state }
 {
     numbered(state.snapshot(file, row))
 }
 
-#[unsafe(no_mangle)]
-pub extern "C" fn gronwythal_targets(state: State, file: &[u8], row: &[u8]) -> Step
+pub fn gronwythal_targets(state: State, file: &[u8], row: &[u8]) -> Step
     ensures { Steps state (new_targets (record { file = file.entry.now; row = row.now })) result.answer result.state }
 {
     numbered(state.targets(file, row))
 }
 
-#[unsafe(no_mangle)]
-pub extern "C" fn gronwythal_find(state: State, file: &[u8], path: &[u8]) -> Image
+pub fn gronwythal_find(state: State, file: &[u8], path: &[u8]) -> Image
     ensures { FindsImage state (record { file = file.entry.now; path = path.now }) result.answer (view_image result) result.compared }
 {
     let found = state.find(file, path);
@@ -139,8 +131,7 @@ pub extern "C" fn gronwythal_find(state: State, file: &[u8], path: &[u8]) -> Ima
     }
 }
 
-#[unsafe(no_mangle)]
-pub extern "C" fn gronwythal_key(state: State, keyid: &[u8]) -> PublicKey
+pub fn gronwythal_key(state: State, keyid: &[u8]) -> PublicKey
     ensures { GivesKey state keyid.now result.answer (view_id result.public) }
 {
     let asked = state.key(keyid);
@@ -150,20 +141,13 @@ pub extern "C" fn gronwythal_key(state: State, keyid: &[u8]) -> PublicKey
     PublicKey { answer, public }
 }
 
-#[unsafe(no_mangle)]
-pub extern "C" fn gronwythal_versions(state: State) -> Versions
+pub fn gronwythal_versions(state: State) -> Versions
     ensures { Tells (view state) result }
 {
     state.versions()
 }
 
-#[unsafe(no_mangle)]
-pub extern "C" fn gronwythal_check_image(
-    listed: u64,
-    digest: &[u8],
-    fetched: u64,
-    hash: &[u8],
-) -> u8
+pub fn gronwythal_check_image(listed: u64, digest: &[u8], fetched: u64, hash: &[u8]) -> u8
     ensures { result ≡ image_answer (record { length = listed; digest = digest.now }) (record { length = fetched; digest = hash.now }) }
 {
     let a = tuf::check_image(listed, digest, fetched, hash);
@@ -171,8 +155,7 @@ pub extern "C" fn gronwythal_check_image(
 }
 
 // SHA-256 of the lent bytes.
-#[unsafe(no_mangle)]
-pub extern "C" fn gronwythal_sha256(bytes: &[u8]) -> Id
+pub fn gronwythal_sha256(bytes: &[u8]) -> Id
     ensures { view_id result ≡ digest_of bytes.now }
 {
     tuf::digest(bytes)
@@ -180,8 +163,7 @@ pub extern "C" fn gronwythal_sha256(bytes: &[u8]) -> Id
 
 // ---- Looking into a file: a part cannot be returned to C, so its place and length are
 
-#[unsafe(no_mangle)]
-pub extern "C" fn gronwythal_look(file: &[u8]) -> Looked
+pub fn gronwythal_look(file: &[u8]) -> Looked
     ensures { view_look result ≡ look_into file.now }
 {
     let looked = tuf::look(file);
@@ -195,8 +177,7 @@ pub extern "C" fn gronwythal_look(file: &[u8]) -> Looked
     }
 }
 
-#[unsafe(no_mangle)]
-pub extern "C" fn gronwythal_entry(file: &[u8], place: usize) -> EntryRead
+pub fn gronwythal_entry(file: &[u8], place: usize) -> EntryRead
     ensures { view_entry_read result ≡ entry_at file.now place }
 {
     let read = tuf::entry(file, place);
@@ -209,8 +190,7 @@ pub extern "C" fn gronwythal_entry(file: &[u8], place: usize) -> EntryRead
 
 // ---- Text alone
 
-#[unsafe(no_mangle)]
-pub extern "C" fn gronwythal_is_canonical(text: &[u8]) -> bool
+pub fn gronwythal_is_canonical(text: &[u8]) -> bool
     ensures { (result ≡ true) ↔ Canonical max_depth text.now }
 {
     canonical_json::is_canonical(text)

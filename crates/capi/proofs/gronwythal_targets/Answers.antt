@@ -1,0 +1,9 @@
+-- `gronwythal_targets` meets its contract: that of the call.
+use borrow.Author.Rules.{rules}
+use Rattle.tuf.specs.Promises.{Steps}
+use Rattle.capi.proofs.NumberedLaws.{by_number}
+use Rattle.std.proofs.Common.{arith, rules}
+use Rattle.capi.proofs.gronwythal_targets.Goals as goal
+
+pub returns : goal.returns
+returns c = by_number (Steps _ _) _ _ c.numbered.ensures c.targets.ensures
