@@ -39,7 +39,7 @@ loop-m-preserved c =
     let q = c.in-At.is in
     let x = c.image_at-image in
     let n = c.next_member_by-m.ensures.means x.ensures.end in (
-      pass_next a.s.now a.path.now a.at l.search l.n l.m l.invariant.0 _ _ q x.result x.ensures (not-false _ c.if-not-image.false) (omega (arith, c.if-n-ge-MAX_TARGETS.false)) c.with_image-search.result c.with_image-search.ensures _ n,
+      pass_next a.s.now a.path.now a.at l.search l.n l.m l.invariant.0 _ _ q x.result x.ensures (not-false _ c.if-not-image.false) (omega arith) c.with_image-search.result c.with_image-search.ensures _ n,
       walks_next a.s.now _ l.m l.invariant.1 _ _ q _ n,
     )
 
