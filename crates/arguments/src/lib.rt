@@ -1,9 +1,13 @@
 // The arguments of a line. The bytes of all of them stand one behind another in one buffer.
 #![tactic(auto)]
 
-ghost use Rattle.std.specs.Prelude.{◌≤◌, length};
+ghost use Rattle.std.specs.Prelude.{◌≤◌, length, IfOk};
 
 use date::Time;
+use std::fs::File;
+use std::io;
+use std::io::Read;
+use std::rt::Files;
 
 // The most arguments that a call has.
 pub const ARGUMENTS: usize = 4;
@@ -84,32 +88,47 @@ fn copy_in(from: &[u8], to: &mut [u8]) -> Unpacked
     good(i)
 }
 
-// Reads the whole of an open file, unless it fills the buffer: then it may have more.
-fn read_in(fd: i32, to: &mut [u8]) -> Unpacked
-    ensures { result.length ≤ length to.new }
+// Reads until the buffer is full or the file ends; how many bytes came. An `Err` leaves those that came before it.
+fn read_full(file: &mut impl Read, to: &mut [u8]) -> io::Result<usize>
+    ensures { IfOk result (λ n. n ≤ length to.new) }
 {
-    let got = libc::read(fd, to);
-    if got < 0 {
-        return bad(Problem::Unopened);
+    let mut done = 0;
+    while done < to.len() {
+        let n = file.read(&mut to[done..])?;
+        if n == 0 {
+            break;
+        }
+        done += n;
     }
-    let n = io::count(got, to);
-    let more = io::read_full(fd, &mut to[n..]);
-    if n + more == to.len() {
-        return bad(Problem::TooMany);
-    }
-    good(n + more)
+    Ok(done)
 }
 
-fn file_in(name: &[u8], to: &mut [u8]) -> Unpacked
+// Reads the whole of an open file, unless it fills the buffer: then it may have more.
+fn read_in(file: &mut impl Read, to: &mut [u8]) -> Unpacked
     ensures { result.length ≤ length to.new }
 {
-    let fd = os::open_read(name);
-    if fd < 0 {
-        return bad(Problem::Unopened);
+    match read_full(file, to) {
+        Err(_) => bad(Problem::Unopened),
+        Ok(n) => {
+            if n == to.len() {
+                return bad(Problem::TooMany);
+            }
+            good(n)
+        }
     }
-    let read = read_in(fd, to);
-    libc::close(fd);
-    read
+}
+
+// A name that is not UTF-8 opens no file.
+fn file_in(rt: &impl Files, name: &[u8], to: &mut [u8]) -> Unpacked
+    ensures { result.length ≤ length to.new }
+{
+    let Ok(path) = str::from_utf8(name) else {
+        return bad(Problem::Unopened);
+    };
+    match File::open(rt, path) {
+        Err(_) => bad(Problem::Unopened),
+        Ok(mut file) => read_in(&mut file, to),
+    }
 }
 
 fn hex_in(digits: &[u8], to: &mut [u8]) -> Unpacked
@@ -129,7 +148,7 @@ fn hex_in(digits: &[u8], to: &mut [u8]) -> Unpacked
 }
 
 // Hex, `-` for no bytes, `'` and the bytes themselves, or `@` and the name of a file that has them.
-fn unpack(word: &[u8], to: &mut [u8]) -> Unpacked
+fn unpack(rt: &impl Files, word: &[u8], to: &mut [u8]) -> Unpacked
     ensures { result.length ≤ length to.new }
 {
     if word.len() == 0 {
@@ -140,7 +159,7 @@ fn unpack(word: &[u8], to: &mut [u8]) -> Unpacked
             return copy_in(&word[1..], to);
         }
         b'@' => {
-            return file_in(&word[1..], to);
+            return file_in(rt, &word[1..], to);
         }
         b'-' => {
             if word.len() == 1 {
@@ -166,12 +185,12 @@ fn wrong(problem: Problem, at: usize) -> Argument {
     }
 }
 
-fn bytes_at(word: &[u8], bytes: &mut [u8], at: usize) -> Argument {
+fn bytes_at(rt: &impl Files, word: &[u8], bytes: &mut [u8], at: usize) -> Argument {
     if bytes.len() < at {
         return wrong(Problem::TooMany, at);
     }
     let room = script::least(bytes.len() - at, ARGUMENT);
-    let unpacked = unpack(word, &mut bytes[at..at + room]);
+    let unpacked = unpack(rt, word, &mut bytes[at..at + room]);
     let problem = unpacked.problem;
     Argument {
         problem,
@@ -212,10 +231,10 @@ fn time_of(word: &[u8], at: usize) -> Argument {
 }
 
 // An argument of a kind: b for bytes, n for a number, t for a time. Its bytes go into the buffer from `at` on.
-fn read_one(kind: u8, word: &[u8], bytes: &mut [u8], at: usize) -> Argument {
+fn read_one(rt: &impl Files, kind: u8, word: &[u8], bytes: &mut [u8], at: usize) -> Argument {
     match kind {
         b'b' => {
-            return bytes_at(word, bytes, at);
+            return bytes_at(rt, word, bytes, at);
         }
         b'n' => {
             return number_of(word, at);
@@ -237,7 +256,7 @@ pub fn none(problem: Problem) -> Arguments {
 }
 
 // The words behind the first of a line, by their kinds.
-pub fn read(kinds: &[u8], line: &[u8], bytes: &mut [u8]) -> Arguments {
+pub fn read(rt: &impl Files, kinds: &[u8], line: &[u8], bytes: &mut [u8]) -> Arguments {
     if script::words(line) != kinds.len() + 1 {
         return none(Problem::Words);
     }
@@ -248,7 +267,7 @@ pub fn read(kinds: &[u8], line: &[u8], bytes: &mut [u8]) -> Arguments {
         if kinds.len() <= i {
             return read;
         }
-        let one = read_one(kinds[i], script::word(line, i + 1), bytes, at);
+        let one = read_one(rt, kinds[i], script::word(line, i + 1), bytes, at);
         let problem = one.problem;
         if is_wrong(problem) {
             return none(problem);

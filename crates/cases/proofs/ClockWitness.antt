@@ -7,7 +7,7 @@ use lib.IntN.{ℤ, pos}
 use lib.ListN.{drop}
 use Rattle.base.specs.Bytes.{bytes}
 use Rattle.sha256.specs.Message.{digest_of}
-use Rattle.rules.specs.State.{Snapshot, State, keep_targets, Call, new_cycle, new_snapshot, new_targets, find}
+use Rattle.rules.specs.State.{State, keep_targets, Call, new_cycle, new_snapshot, new_targets, find}
 use Rattle.rules.specs.Steps.{next, installed, with_start, with_timestamp, with_snapshot, with_targets, Item, a_timestamp}
 use Rattle.rules.specs.Words.{Expired}
 use Rattle.rules.specs.Exactly.{expires_of, leans_on, FindsExpired, FindsFresh}
@@ -49,7 +49,7 @@ until_goes =
     step (timestamp_goes _ readings.timestamp5 refl)
     (step (snapshot_goes _ readings.snapshot7 refl)
     (step (targets_goes _ readings.targets3 refl)
-    (step (find_goes _ readings.targets3 (as_listed (digest_of (targets_text "3" image_text)) _ refl))
+    (step (find_goes {s = up (pos 1000)} _ readings.targets3 (as_listed _ (digest_of (targets_text "3" image_text)) _ refl refl))
     (step (cycle_goes refl)
     stop))))
 

@@ -14,7 +14,7 @@ use Rattle.base.specs.Hex.{digit_of, all_hex, is_hex, undo}
 use Rattle.sha256.specs.Message.{digest_of}
 use Rattle.date.specs.Calendar.{expired}
 use Rattle.rules.specs.Forms.{different}
-use Rattle.rules.specs.State.{Root, Timestamp, Snapshot, Targets, State, keep_targets, Row, Install, FileOffer, Call, new_cycle, new_root, new_timestamp, new_snapshot, new_targets, find, ask_key, ask_state}
+use Rattle.rules.specs.State.{Query, Root, Timestamp, Snapshot, Targets, State, keep_targets, Row, Install, FileOffer, Call, new_cycle, new_root, new_timestamp, new_snapshot, new_targets, find, ask_key, ask_state}
 use Rattle.rules.specs.Steps.{install_table, install_answer, answer, next, installed, root_alone, with_start, with_root, with_timestamp, with_snapshot, with_targets, a_timestamp, offered}
 use Rattle.rules.specs.Words.{GoodRow, Enough, Keeps}
 use Rattle.rules.specs.History.{History, run, end, Event, calls, events, happened, Apart, Unrotated, BecomesTrusted, at_call, Idle, Plan, after_roots, at_timestamp, at_snapshot, at_targets, last_root, Fresh, Honest, Through}
@@ -27,7 +27,7 @@ use Rattle.rules.proofs.TableLaws.{one-held, judged-is}
 use Rattle.rules.proofs.NextLaws.{says_what}
 use Rattle.rules.proofs.ExactlyLaws.{install-after}
 use Rattle.history.proofs.Demand3.{apart-at, demand3}
-use Rattle.cases.proofs.WitnessFiles.{a, b, only, pair, root_text, root_at, version_text, full_text, version_only, full, timestamp_text, timestamp_at, snapshot_text, targets_text, targets_at, image_text, an_image, plain_names, more_names, low_names, full_names, snapshot_digest, low, complete, targets-digest, snapshot-digest, readings}
+use Rattle.cases.proofs.WitnessFiles.{plain, a, b, only, pair, root_text, root_at, version_text, full_text, version_only, full, timestamp_text, timestamp_at, snapshot_text, targets_text, targets_at, image_text, an_image, plain_names, more_names, low_names, full_names, snapshot_digest, low, complete, targets-digest, snapshot-digest, readings}
 use Rattle.cases.proofs.WitnessSteps.{Goes, Chain, stop, step, chain_run, answers_of, chain-answers, chain-answer, root_goes, timestamp_goes, snapshot_goes, targets_goes, root-refused, timestamp-refused, targets-refused, find_goes, cycle_goes, cycle-refused, state_goes, key_goes, not-other, as_listed}
 
 -- ## The calls
@@ -54,12 +54,16 @@ offer file row = record { file = file; row = row }
 abbrev pub the_install : Install
 the_install = record { file = root_text "1" "1" k; row = by_a; start = pos 1000 }
 
+-- the path that is asked for
+abbrev the_query : Query
+the_query = record { file = targets_text "3" image_text; path = bytes "f" }
+
 abbrev pub the_calls : List Call
 the_calls =
     a_new_timestamp (timestamp_text "5" (version_text "7")) by_a
     ∷ new_snapshot (offer (snapshot_text "7" plain_names) by_a)
     ∷ new_targets (offer (targets_text "3" image_text) by_a)
-    ∷ find (record { file = targets_text "3" image_text; path = bytes "f" })
+    ∷ find the_query
     -- other files with equal versions
     ∷ a_new_timestamp (timestamp_text "6" (version_text "7")) by_a
     ∷ new_snapshot (offer (snapshot_text "7" more_names) by_a)
@@ -89,6 +93,10 @@ kept file version = record { version = version; expires = pos 1893456000; digest
 abbrev pub held1 : Targets
 held1 = kept (targets_text "1" image_text) 1
 
+-- the state in which the find is made
+abbrev found_in : State
+found_in = at (root_at 1 1 a) (some (timestamp_at 5 (version_only 7))) (some plain) (some (kept (targets_text "3" image_text) 3)) (pos 1000)
+
 chain : Chain (at (root_at 1 1 a) none none none (pos 1000)) the_calls
     (0 ∷ 0 ∷ 0 ∷ 0 ∷ 0 ∷ 0 ∷ 0 ∷ 0 ∷ 9 ∷ 0 ∷ 0 ∷ 9 ∷ 0 ∷ 0 ∷ 0 ∷ 0 ∷ [])
     (at (root_at 3 2 b) (some (timestamp_at 1 (version_only 2))) (some low) (some held1) (pos 1000))
@@ -97,7 +105,7 @@ chain =
     step (timestamp_goes _ readings.timestamp5 refl)
     (step (snapshot_goes _ readings.snapshot7 refl)
     (step (targets_goes _ readings.targets3 refl)
-    (step (find_goes _ readings.targets3 (as_listed (digest_of (targets_text "3" image_text)) _ refl))
+    (step (find_goes {s = found_in} _ {q = the_query} readings.targets3 (as_listed _ (digest_of (targets_text "3" image_text)) _ refl refl))
     (step (timestamp_goes _ readings.timestamp6 refl)
     (step (snapshot_goes _ readings.snapshot7_more refl)
     (step (targets_goes _ readings.empty3 refl)
@@ -258,7 +266,7 @@ unfolding tables run with_snapshot with_start
 at-targets =
     ap (λ (s : State). run (next s (new_snapshot plan.snapshot.offer)) (new_cycle (pos 3000) ∷ new_cycle (pos 2999) ∷ [])) at-snapshot
     ∙ chain_run
-    (step (snapshot_goes complete readings.snapshot3 (as_listed _ _ snapshot-digest))
+    (step (snapshot_goes {s = before₂} complete readings.snapshot3 (as_listed _ (digest_of (snapshot_text "3" full_names)) snapshot_digest snapshot-digest refl))
     (step (cycle_goes refl) (step (cycle-refused refl) stop)))
 
 -- calls by which no file becomes trusted

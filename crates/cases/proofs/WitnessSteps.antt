@@ -11,7 +11,7 @@ use Rattle.base.specs.Bytes.{Bytes, same}
 use Rattle.base.proofs.ByteLaws.{same_self}
 use Rattle.rules.specs.Records.{Image, File}
 use Rattle.rules.specs.State.{Root, Timestamp, Snapshot, State, keep_targets, root_in, timestamp_in, snapshot_in, targets_in, RootOffer, FileOffer, Query, Call, new_cycle, new_root, new_timestamp, new_snapshot, new_targets, find, ask_key, ask_state}
-use Rattle.rules.specs.Table.{◌when◌, first}
+use Rattle.rules.specs.Table.{Refusal, ◌when◌, first}
 use Rattle.rules.specs.Steps.{cycle_table, root_table, timestamp_table, snapshot_table, targets_table, find_table, key_table, answer, next, with_start, with_root, with_timestamp, with_snapshot, with_targets, a_root, a_timestamp, a_snapshot, a_targets, offered, trusting, started, after_root}
 use Rattle.rules.specs.History.{run}
 use Rattle.rules.proofs.TableLaws.{judged-is}
@@ -137,6 +137,6 @@ state_goes {s} = record { answers = refl; becomes = next-same s ask_state refl r
 pub not-other : (x y : Bytes) → x ≡ y → not (same x y) ≡ false
 not-other x y e = rw (e, same_self y)
 
-pub as_listed : (x y : Bytes) → x ≡ y → first (8 when not (same x y) ∷ []) ≡ 0
+pub as_listed : (rest : List Refusal) (x y : Bytes) → x ≡ y → first rest ≡ 0 → first (8 when not (same x y) ∷ rest) ≡ 0
 unfolding first
-as_listed x y e = rw (not-other x y e)
+as_listed rest x y e f = rw (not-other x y e) f

@@ -1,12 +1,12 @@
 -- The form of a date's text: as a test, one turn of a loop that compares, and the digits that it gives.
 use mathlib.Core.Path.{◌≡◌, refl, sym, ◌∙◌, ap}
 use mathlib.Core.List.{[], ◌∷◌}
-use mathlib.Core.Bool.{Bool, true, false, not, and-false}
+use mathlib.Core.Bool.{Bool, true, false, and-false}
 use Prim.Native.Nat.{ℕ, zero, suc, ◌≤◌, ◌<◌, ◌+◌}
 use lib.Dec.{eqb}
 use lib.ListN.{length, drop, get_or}
 use native.Mathlib.Omega.{arith}
-use borrow.Author.Tests.{eq-eqb, ne_eqb, not-false}
+use borrow.Author.Tests.{eq-eqb, ne_eqb}
 use Rattle.base.specs.Bytes.{Bytes, is_digit}
 use Rattle.base.proofs.TestLaws.{never, both}
 use Rattle.base.proofs.PlaceLaws.{at-cons, at-end}
@@ -74,9 +74,9 @@ digit-there (f ∷ fs) (b ∷ s) (suc i) h e =
     record { within = omega (arith, w.within); low = w.low; high = w.high }
 
 -- r is the answer of a test for the form that passed
-pub digits-at : (s : Bytes) {r : Bool} → r ≡ has_form form s → not r ≡ false → (i : ℕ) → get_or form i 0 ≡ 48 → get_or form (i + 1) 0 ≡ 48 → DigitsAt s i
+pub digits-at : (s : Bytes) {r : Bool} → r ≡ has_form form s → r ≡ true → (i : ℕ) → get_or form i 0 ≡ 48 → get_or form (i + 1) 0 ≡ 48 → DigitsAt s i
 digits-at s {r} h k i e e' =
-    let w = sym h ∙ not-false r k in
+    let w = sym h ∙ k in
     let a = digit-there form s i w e in
     let b = digit-there form s (i + 1) w e' in
     record { within = b.within; low = a.low; high = a.high; low-next = b.low; high-next = b.high }

@@ -63,9 +63,9 @@ module _ (s : Bytes) (p e : ℕ) (r : EntryAt)
       ∙ sym (plain-text id_text sig_text (drop e s) h k) in
       ap (read max_depth) t ∙ complete-object _ max_depth (drop e s) (plain-valid id_text sig_text (drop e s) h k)
 
-  pub plain_entry : r.ok ≡ true → r.end ≡ At e → p < e → e ≤ length s → ReadsEntry s p r
+  pub plain-reads : r.ok ≡ true → r.end ≡ At e → p < e → e ≤ length s → ReadsEntry s p r
   unfolding view_entry keep id_text sig_text
-  plain_entry ok end lo hi = record {
+  plain-reads ok end lo hi = record {
     means =
         rw ok
         (takes_of s p _ _ plain-read entry _

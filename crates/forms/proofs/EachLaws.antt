@@ -22,7 +22,6 @@ use Rattle.lookup.proofs.ItemLaws.{item-stands}
 use Rattle.lookup.proofs.MemberLaws.{member-stands, member-name}
 use Rattle.rules.specs.Take.{◌>>=◌, each, each_named}
 use Rattle.forms.specs.Each.{each_item, each_member}
-use Rattle.forms.proofs.StepLaws.{on}
 
 -- ## What the parts say, one after the other
 

@@ -60,7 +60,7 @@ judgement : {A : Type 0} (rd : Read A) (table : A → List Bytes → List Refusa
     → Judgement rd table (judged rd table)
 unfolding judged
 judgement (refused f) table t = unread refl (fault-numbers f).1
-judgement (says a es) table t = judges refl (none_below 5 (table a es) (t a es)) (lowest 5 (table a es) (t a es))
+judgement (says a es) table t = judges refl (λ n b i. none_below n b 5 (table a es) (t a es) i) (lowest 5 (table a es) (t a es))
 
 -- ## 16
 

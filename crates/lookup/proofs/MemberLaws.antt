@@ -8,9 +8,8 @@ use native.Mathlib.Omega.{arith}
 use lib.ListN.{length, drop, get_or}
 use Rattle.base.specs.Bytes.{Bytes}
 use Rattle.canonical_json.specs.Json.{Json, jnull, jtrue, jfalse, num, str, arr, obj, Members, mnil, mcons, put, put_str, put_bytes, put_more_members, Valid, ValidMembers, max_depth}
-use Rattle.canonical_json.specs.Read.{read, raw, NoDigit}
+use Rattle.canonical_json.specs.Read.{raw, NoDigit}
 use Rattle.canonical_json.specs.Fields.{members}
-use Rattle.canonical_json.specs.declared.Skip.TheVariants as skip
 use Rattle.canonical_json.proofs.Puts.{put-str, put-obj, members-nil, members-cons, more-members-nil, more-members-cons}
 use Rattle.lookup.specs.Place.{Stands, EndsAt, KnownEnd}
 use Rattle.lookup.specs.declared.Found.{Found}

@@ -54,18 +54,22 @@ own_first s p r w v h = go (members v) (w.means v h)
 module _ {s : Bytes} {all : Bool} where
   pub own-none : OwnLeft s all member.NoObject → true ≡ all
   own-none (no_table_lem e) = e
+  own-none (left _ l _) = elim l [ ]
 
   pub own-end : {e : ℕ} → OwnLeft s all (member.End e) → true ≡ all
   unfolding own_keyids
   own-end (left mnil (members-end d) q) = q
+  own-end (left (mcons _ _ _) l _) = elim l [ ]
 
   module _ {i j : ℕ} (b : Bool) (t : Tests s j (own s i) b) where
     pub own-not : b ≡ false → OwnLeft s all (member.At i j) → false ≡ all
     unfolding own_keyids
+    own-not e (left mnil l q) = elim l [ ]
     own-not e (left (mcons n v ms) l q) = rw (← member-name l, ← t v (member-stands l), e) at q
 
     pub own-next : b ≡ true → (r : Member) → NextMember s j r → OwnLeft s all (member.At i j) → OwnLeft s all r
     unfolding own_keyids
+    own-next e r w (left mnil l q) = elim l [ ]
     own-next e r w (left (mcons n v ms) l q) = left ms (w.means i n v ms l) (rw (← member-name l, ← t v (member-stands l), e) at q)
 
 -- ## The table of a member

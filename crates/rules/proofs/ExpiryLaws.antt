@@ -10,7 +10,7 @@ use Rattle.base.specs.Bytes.{Bytes}
 use Rattle.base.proofs.TestLaws.{never}
 use Rattle.date.specs.Calendar.{expired}
 use Rattle.rules.specs.Records.{Image, File, Read, says}
-use Rattle.rules.specs.State.{Root, Timestamp, Snapshot, Targets, State, keep_targets, root_in, timestamp_in, snapshot_in, targets_in, FileOffer, Query, Call, new_cycle, new_root, new_timestamp, new_snapshot, new_targets, find, ask_key, ask_state}
+use Rattle.rules.specs.State.{Timestamp, Snapshot, State, keep_targets, root_in, timestamp_in, snapshot_in, targets_in, FileOffer, Query, Call, new_cycle, new_root, new_timestamp, new_snapshot, new_targets, find, ask_key, ask_state}
 use Rattle.rules.specs.Table.{Refusal, of_held}
 use Rattle.rules.specs.Steps.{cycle_table, root_table, timestamp_table, snapshot_table, targets_table, find_table, key_table, judged, answer, Item, a_root, a_timestamp, a_snapshot, a_targets, what_says, offered}
 use Rattle.rules.specs.Words.{Expired}

@@ -23,7 +23,7 @@ use Rattle.canonical_json.proofs.Slices.{put-split}
 use Rattle.rules.specs.Limits.{max_file}
 use Rattle.base.proofs.TestLaws.{never}
 use Rattle.rules.specs.Records.{File, Fault, Read, refused, says, too_long, not_text, bad_form, other_keyid, other_spec}
-use Rattle.rules.specs.Forms.{Envelope, envelope, entries, known_spec, file_of}
+use Rattle.rules.specs.Forms.{Envelope, envelope, known_spec, file_of}
 use Rattle.rules.specs.State.{kept}
 use Rattle.rules.specs.Table.{Refusal, absent}
 use Rattle.rules.specs.Reading.{whole, parsed, judged_text, read_with, keyids_of, opened, read_envelope, known, spoken, in_envelope, read_as}

@@ -4,6 +4,7 @@
 
 ghost use Rattle.std.specs.Prelude.{◌≡◌, ◌+◌, ◌≤◌, length, drop, pos};
 ghost use Rattle.script.specs.Words.{first, behind, word as word_of, words as words_of};
+ghost use Rattle.std.specs.Fmt.{decimal as decimal_of};
 ghost use Rattle.std.proofs.Math.Option.{none};
 ghost use Rattle.script.specs.Numbers.{digits as digits_of, number as number_of, time as time_of, through, below, view_number, view_moment};
 
@@ -226,12 +227,28 @@ pub fn append(line: &mut [u8], at: usize, text: &[u8]) -> usize
     end
 }
 
+// Writes the decimal digits of n at the end of `out`, and returns where they begin.
+fn decimal(n: u64, out: &mut [u8; 20]) -> usize
+    ensures in_bounds { result ≤ length out.new }
+    ensures digits { drop result out.new ≡ decimal_of n }
+{
+    let mut at = 20;
+    let mut rest = n;
+    while 10 <= rest {
+        at -= 1;
+        out[at] = b'0' + (rest % 10) as u8;
+        rest /= 10;
+    }
+    out[at - 1] = b'0' + rest as u8;
+    at - 1
+}
+
 pub fn append_number(line: &mut [u8], at: usize, n: u64) -> usize
     ensures { result ≤ length line.new }
 {
     let mut digits = [0u8; 20];
-    let k = io::decimal(n, &mut digits);
-    append(line, at, &digits[..k])
+    let from = decimal(n, &mut digits);
+    append(line, at, &digits[from..])
 }
 
 // How far a count is from zero.

@@ -15,7 +15,7 @@ use Rattle.base.proofs.WindowLaws.{window-part}
 use Rattle.canonical_json.specs.Json.{Json, Members}
 use Rattle.canonical_json.specs.Fields.{members, lookup, field, count, keep}
 use Rattle.lookup.specs.Place.{PlaceOf, Finds, Takes}
-use Rattle.lookup.specs.Leaves.{copied, Copies}
+use Rattle.lookup.specs.Leaves.{Copies}
 use Rattle.lookup.specs.declared.Found.{Found}
 use Rattle.lookup.specs.declared.Found.TheVariants.{Nothing, At}
 use Rattle.lookup.proofs.StringLaws.{copied-front, copied-length}

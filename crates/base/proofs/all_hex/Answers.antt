@@ -1,12 +1,6 @@
-use Prim.Native.Nat.{◌≤◌, ◌-◌}
 use native.Mathlib.Omega.{arith}
-use mathlib.Core.Path.{◌≡◌, refl, ◌∙◌, sym}
-use mathlib.Core.Bool.{◌&&◌}
-use borrow.Author.Rules.{rules}
-use lib.ListN.{length, drop}
-use Rattle.base.specs.Hex.{all_hex}
+use mathlib.Core.Path.{refl, ◌∙◌, sym}
 use Rattle.base.proofs.HexLaws.{hex-next, hex-end}
-use Rattle.std.proofs.Common.{rules}
 use Rattle.base.proofs.all_hex.Goals as goal
 
 pub loop-i-init : goal.loop-i-init

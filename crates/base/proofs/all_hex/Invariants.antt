@@ -1,12 +1,9 @@
 -- `all_hex`: the whole is hex exactly where what was looked at was and what is left is.
 use Prim.Native.Nat.{◌≤◌, ◌-◌}
-use native.Mathlib.Omega.{arith}
-use mathlib.Core.Path.{◌≡◌, refl, ◌∙◌, sym}
+use mathlib.Core.Path.{◌≡◌}
 use mathlib.Core.Bool.{◌&&◌}
-use borrow.Author.Rules.{rules}
 use lib.ListN.{length, drop}
 use Rattle.base.specs.Hex.{all_hex}
-use Rattle.base.proofs.HexLaws.{hex-next, hex-end}
 use Rattle.base.proofs.all_hex.Given as goal
 
 abbrev pub invariant-loop-i : goal.invariant-loop-i

@@ -1,7 +1,7 @@
 -- `digit_value`: below the letters a digit is decimal.
 use borrow.Author.Rules.{rules}
 use Rattle.base.proofs.HexLaws.{value-decimal, value-letter}
-use Rattle.std.proofs.Common.{arith, rules}
+use Rattle.std.proofs.Common.{rules}
 use Rattle.base.proofs.digit_value.Goals as goal
 
 pub overflow_sub-result : goal.overflow_sub-result

@@ -1,11 +1,6 @@
-use Prim.Native.Nat.{◌≤◌, ◌+◌, ◌-◌}
 use native.Mathlib.Omega.{arith}
-use mathlib.Core.Path.{◌≡◌, ◌∙◌, sym}
-use mathlib.Core.Bool.{◌&&◌}
-use lib.ListN.{length, take, drop}
-use Rattle.base.specs.Bytes.{same as same_of}
+use mathlib.Core.Path.{◌∙◌, sym}
 use Rattle.base.proofs.ByteLaws.{stood-first, stood_next, stood-end, stood-short, stood_none}
-use Rattle.std.proofs.Common.{rules}
 use Rattle.base.proofs.has_at.Goals as goal
 
 pub returns-then-s-at : goal.returns-then-s-at

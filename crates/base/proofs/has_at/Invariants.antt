@@ -1,11 +1,9 @@
 -- `has_at`: the whole stands there exactly where what was looked at does and what is left does.
 use Prim.Native.Nat.{◌≤◌, ◌+◌, ◌-◌}
-use native.Mathlib.Omega.{arith}
-use mathlib.Core.Path.{◌≡◌, ◌∙◌, sym}
+use mathlib.Core.Path.{◌≡◌}
 use mathlib.Core.Bool.{◌&&◌}
 use lib.ListN.{length, take, drop}
 use Rattle.base.specs.Bytes.{same as same_of}
-use Rattle.base.proofs.ByteLaws.{stood-first, stood_next, stood-end, stood-short, stood_none}
 use Rattle.base.proofs.has_at.Given as goal
 
 abbrev pub invariant-loop-k : goal.invariant-loop-k

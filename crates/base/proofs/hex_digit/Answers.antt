@@ -1,8 +1,6 @@
 -- `hex_digit`: one law for each range of bytes.
 use native.Mathlib.Omega.{arith}
 use Rattle.base.proofs.HexLaws.{decimal, letter, below, between, above}
-use borrow.Author.Rules.{rules}
-use Rattle.std.proofs.Common.{rules}
 use Rattle.base.proofs.hex_digit.Goals as goal
 
 pub returns-in-48-to-57 : goal.returns-in-48-to-57

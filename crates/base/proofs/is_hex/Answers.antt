@@ -3,9 +3,7 @@ use native.Mathlib.Omega.{arith}
 use mathlib.Core.Path.{sym, ◌∙◌, ◌≡◌}
 use Prim.Native.Nat.{◌*◌}
 use lib.ListN.{length}
-use borrow.Author.Rules.{rules}
 use Rattle.base.proofs.HexLaws.{not-long, long}
-use Rattle.std.proofs.Common.{rules}
 use Rattle.base.proofs.is_hex.Goals as goal
 
 pub returns-then-s-ne0 : goal.returns-then-s-ne0

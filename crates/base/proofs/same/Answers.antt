@@ -1,10 +1,6 @@
-use Prim.Native.Nat.{◌≤◌, ◌-◌}
 use native.Mathlib.Omega.{arith}
-use mathlib.Core.Path.{◌≡◌, refl, ◌∙◌, sym}
-use lib.ListN.{length, drop}
-use Rattle.base.specs.Bytes.{same as same_of}
+use mathlib.Core.Path.{refl, ◌∙◌, sym}
 use Rattle.base.proofs.ByteLaws.{same-lengths, same-apart, same_next, same_end}
-use Rattle.std.proofs.Common.{rules}
 use Rattle.base.proofs.same.Goals as goal
 
 pub returns-then-a-b : goal.returns-then-a-b

@@ -1,10 +1,8 @@
 -- `same` compares byte by byte: what is left of both compares as the whole does.
 use Prim.Native.Nat.{◌≤◌, ◌-◌}
-use native.Mathlib.Omega.{arith}
-use mathlib.Core.Path.{◌≡◌, refl, ◌∙◌, sym}
+use mathlib.Core.Path.{◌≡◌}
 use lib.ListN.{length, drop}
 use Rattle.base.specs.Bytes.{same as same_of}
-use Rattle.base.proofs.ByteLaws.{same-lengths, same-apart, same_next, same_end}
 use Rattle.base.proofs.same.Given as goal
 
 abbrev pub invariant-loop-i : goal.invariant-loop-i

@@ -1,11 +1,6 @@
-use Prim.Native.Nat.{◌≤◌, ◌-◌, ◌+◌}
 use native.Mathlib.Omega.{arith}
-use mathlib.Core.Path.{◌≡◌, ◌∙◌, sym}
-use borrow.Author.Rules.{rules}
-use Rattle.base.specs.Bytes.{same}
-use Rattle.base.specs.Window.{window}
+use mathlib.Core.Path.{◌∙◌, sym}
 use Rattle.base.proofs.WindowLaws.{window-apart, window-next, window-end, window-start}
-use Rattle.std.proofs.Common.{rules}
 use Rattle.base.proofs.same_window.Goals as goal
 
 pub loop-k-init : goal.loop-k-init

@@ -1,11 +1,8 @@
 -- `same_window`: what is left of both windows compares as the whole windows do.
 use Prim.Native.Nat.{◌≤◌, ◌-◌, ◌+◌}
-use native.Mathlib.Omega.{arith}
-use mathlib.Core.Path.{◌≡◌, ◌∙◌, sym}
-use borrow.Author.Rules.{rules}
+use mathlib.Core.Path.{◌≡◌}
 use Rattle.base.specs.Bytes.{same}
 use Rattle.base.specs.Window.{window}
-use Rattle.base.proofs.WindowLaws.{window-apart, window-next, window-end, window-start}
 use Rattle.base.proofs.same_window.Given as goal
 
 abbrev pub invariant-loop-k : goal.invariant-loop-k

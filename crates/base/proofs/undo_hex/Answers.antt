@@ -1,14 +1,8 @@
-use Prim.Native.Nat.{◌≤◌, ◌-◌, ◌*◌, ◌+◌}
+use Prim.Native.Nat.{◌*◌, ◌+◌}
 use native.Mathlib.Omega.{arith}
 use mathlib.Core.Path.{◌≡◌, refl, ◌∙◌, sym}
-use mathlib.Core.List.{◌++◌}
-use mathlib.Core.Bool.{true}
-use borrow.Author.Rules.{rules}
-use borrow.Author.Tests.{not-true, not-false}
-use lib.ListN.{length, take, drop, length-set}
-use Rattle.base.specs.Hex.{all_hex, undo}
+use lib.ListN.{length, length-set}
 use Rattle.base.proofs.HexLaws.{hex-at, hex-parts, undo-next, undo-end}
-use Rattle.std.proofs.Common.{rules}
 use Rattle.base.proofs.undo_hex.Goals as goal
 
 pub returns-then-not-is_hex : goal.returns-then-not-is_hex

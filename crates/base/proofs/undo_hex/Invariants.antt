@@ -1,14 +1,10 @@
 -- `undo_hex`: the first i bytes are undone, and what is left of the digits gives the rest.
-use Prim.Native.Nat.{◌≤◌, ◌-◌, ◌*◌, ◌+◌}
-use native.Mathlib.Omega.{arith}
-use mathlib.Core.Path.{◌≡◌, refl, ◌∙◌, sym}
+use Prim.Native.Nat.{◌≤◌, ◌-◌, ◌*◌}
+use mathlib.Core.Path.{◌≡◌}
 use mathlib.Core.List.{◌++◌}
 use mathlib.Core.Bool.{true}
-use borrow.Author.Rules.{rules}
-use borrow.Author.Tests.{not-true, not-false}
-use lib.ListN.{length, take, drop, length-set}
+use lib.ListN.{length, take, drop}
 use Rattle.base.specs.Hex.{all_hex, undo}
-use Rattle.base.proofs.HexLaws.{hex-at, hex-parts, undo-next, undo-end}
 use Rattle.base.proofs.undo_hex.Given as goal
 
 abbrev pub invariant-loop-i : goal.invariant-loop-i

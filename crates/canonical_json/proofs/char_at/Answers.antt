@@ -1,33 +1,31 @@
 -- `canonical_json::char_at` meets its contract, by the byte at `i`.
 use native.Mathlib.Omega.{arith}
-use borrow.Author.Rules.{rules}
 use Rattle.canonical_json.proofs.NameLaws as names
-use Rattle.std.proofs.Common.{rules}
 use Rattle.canonical_json.proofs.char_at.Goals as goal
 
-pub returns-then_s_i : goal.returns-then_s_i
-returns-then_s_i c =
+pub returns-then-s-i : goal.returns-then-s-i
+returns-then-s-i c =
     let a = c.args in
     let h = c.if-s-i.true in
     record { is = names.char_over a.s.now a.i h; means = names.over a.s.now a.i h }
 
-pub returns-then-first_eq34 : goal.returns-then-first_eq34
-returns-then-first_eq34 c =
+pub returns-then-first-eq34 : goal.returns-then-first-eq34
+returns-then-first-eq34 c =
     let a = c.args in
     let h = c.if-s-i.false in
     let e = c.if-first-eq34.true in
     record { is = names.char_closed a.s.now a.i h e; means = names.closed a.s.now a.i h e }
 
-pub returns-then_s_j : goal.returns-then_s_j
-returns-then_s_j c =
+pub returns-then-s-j : goal.returns-then-s-j
+returns-then-s-j c =
     let a = c.args in
     let h = c.if-s-i.false in
     let e = c.if-first-eq92.true in
     let k = c.if-s-j.true in
     record { is = names.char_lone a.s.now a.i h e k; means = names.lone a.s.now a.i h e k }
 
-pub returns-then-first_eq92 : goal.returns-then-first_eq92
-returns-then-first_eq92 c =
+pub returns-then-first-eq92 : goal.returns-then-first-eq92
+returns-then-first-eq92 c =
     let a = c.args in
     let h = c.if-s-i.false in
     let e = c.if-first-eq92.true in

@@ -3,50 +3,40 @@ use mathlib.Core.Path.{sym, ◌∙◌}
 use Prim.Native.Nat.{◌+◌, ◌<◌}
 use native.Mathlib.Omega.{arith}
 use lib.ListN.{drop, get_or}
-use borrow.Author.Rules.{rules}
 use Rattle.canonical_json.specs.Read.{esc, chars, read_str}
 use Rattle.canonical_json.proofs.Chars as strings
-use Rattle.std.proofs.Common.{rules}
 use Rattle.canonical_json.proofs.char_end.Goals as goal
 
-pub returns-then-b_eq92 : goal.returns-then-b_eq92
-returns-then-b_eq92 c =
-    
+pub returns-then-b-eq92 : goal.returns-then-b-eq92
+returns-then-b-eq92 c =
     let a = c.args in
     let s = a.s.now in
     strings.skips_from s (read_str (drop a.i s)) (esc (drop (a.i + 1) s)) (a.i + 1) c.escape_end.result
     (strings.backslash s a.i c.requires.0 c.if-b-eq92.true) c.escape_end.ensures
 
-pub returns-then-b_lt32 : goal.returns-then-b_lt32
-returns-then-b_lt32 c =
-    
+pub returns-then-b-lt32 : goal.returns-then-b-lt32
+returns-then-b-lt32 c =
     let a = c.args in
     let s = a.s.now in
     strings.control s a.i c.requires.0 c.requires.1 c.if-b-eq92.false (omega arith)
 
-pub returns-then-b_lt128 : goal.returns-then-b_lt128
-returns-then-b_lt128 c =
-    
+pub returns-then-b-lt128 : goal.returns-then-b-lt128
+returns-then-b-lt128 c =
     let a = c.args in
     let s = a.s.now in
     let h : get_or s a.i 0 < 128 = c.if-b-lt128.true in
     (strings.plain s a.i c.requires.0 c.requires.1 c.if-b-eq92.false c.if-b-lt32.false (omega arith), omega arith)
 
-pub returns_in_Bad : goal.returns_in_Bad
-returns_in_Bad c =
-    
+pub returns-in-Bad : goal.returns-in-Bad
+returns-in-Bad c =
     let a = c.args in
     let s = a.s.now in
     strings.no_lead s a.i c.requires.0 c.requires.1 c.if-b-eq92.false (sym c.lead.ensures ∙ c.in-Bad.is)
 
-pub returns_in_Seq : goal.returns_in_Seq
-returns_in_Seq c =
-    
+pub returns-in-Seq : goal.returns-in-Seq
+returns-in-Seq c =
     let a = c.args in
     let s = a.s.now in
-    let w = c.more-1.given in
-    let m = w.0.0 in
-    let lo = w.0.1.0 in
-    let hi = w.0.1.1.0 in
-    strings.skips_from s (read_str (drop a.i s)) (chars (drop (a.i + 1) s) m lo hi) (a.i + 1) c.tail_end.result
-    (strings.begun s a.i c.requires.0 c.requires.1 c.if-b-eq92.false m lo hi (sym c.lead.ensures ∙ w.1)) c.tail_end.ensures
+    let w = c.in-Seq in
+    strings.skips_from s (read_str (drop a.i s)) (chars (drop (a.i + 1) s) w.more w.lo w.hi) (a.i + 1) c.tail_end.result
+    (strings.begun s a.i c.requires.0 c.requires.1 c.if-b-eq92.false w.more w.lo w.hi (sym c.lead.ensures ∙ w.is)) c.tail_end.ensures

@@ -1,23 +1,21 @@
 -- `canonical_json::escape_end` meets its contract, by the byte after the backslash.
 use mathlib.Core.Path.{refl}
 use native.Mathlib.Omega.{arith}
-use borrow.Author.Rules.{rules}
 use Rattle.canonical_json.proofs.Chars as strings
-use Rattle.std.proofs.Common.{rules}
 use Rattle.canonical_json.proofs.escape_end.Goals as goal
 
-pub returns-then_s_at : goal.returns-then_s_at
-returns-then_s_at c =
+pub returns-then-s-at : goal.returns-then-s-at
+returns-then-s-at c =
     let a = c.args in
     strings.lone a.s.now a.at c.if-s-at.true
 
-pub returns-then_c_eq34 : goal.returns-then_c_eq34
-returns-then_c_eq34 c =
+pub returns-then-c-eq34 : goal.returns-then-c-eq34
+returns-then-c-eq34 c =
     let a = c.args in
     (strings.escaped a.s.now a.at c.if-s-at.false 34 c.if-c-eq34.true refl, omega arith)
 
-pub returns-then_c_eq92 : goal.returns-then_c_eq92
-returns-then_c_eq92 c =
+pub returns-then-c-eq92 : goal.returns-then-c-eq92
+returns-then-c-eq92 c =
     let a = c.args in
     (strings.escaped a.s.now a.at c.if-s-at.false 92 c.if-c-eq92.true refl, omega arith)
 

@@ -1,10 +1,8 @@
 -- `is_shared` meets its contract: its tests are those of the definition.
-use borrow.Author.Rules.{rules}
 use mathlib.Core.Path.{ap}
 use mathlib.Core.Bool.{Bool, ◌&&◌}
 use lib.Dec.{eqb}
 use Rattle.canonical_json.specs.Strings.{shared}
-use Rattle.std.proofs.Common.{arith, rules}
 use Rattle.canonical_json.proofs.is_shared.Goals as goal
 
 pub returns : goal.returns

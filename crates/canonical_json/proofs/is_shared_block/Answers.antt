@@ -1,23 +1,15 @@
-use borrow.Author.Rules.{rules}
-use mathlib.Core.Path.{◌≡◌}
-use mathlib.Core.Bool.{true}
-use Prim.Native.Nat.{◌≤◌, ◌-◌}
 use native.Mathlib.Omega.{arith}
-use Rattle.canonical_json.specs.Strings.{SharedRun}
 use Rattle.canonical_json.proofs.SharedLaws.{shared-more}
-use Rattle.std.proofs.Common.{rules}
 use Rattle.canonical_json.proofs.is_shared_block.Goals as goal
 
-pub loop-k_init : goal.loop-k_init
-loop-k_init c = (omega arith, λ _ k l. absurd (omega (arith, l)))
+pub loop-k-init : goal.loop-k-init
+loop-k-init c = (omega arith, λ _ k l. absurd (omega (arith, l)))
 
-pub loop-k_preserved : goal.loop-k_preserved
-loop-k_preserved c =
-    
+pub loop-k-preserved : goal.loop-k-preserved
+loop-k-preserved c =
     let a = c.args in
     (omega (arith, c.loop-k-test.true), shared-more a.s.now a.a a.b c.loop-k.k c.loop-k.all c.is_shared-one.result c.is_shared-one.ensures c.loop-k.invariant.1)
 
 pub returns : goal.returns
 returns c =
-    
     λ e k h. c.loop-k.invariant.1 e k (omega (arith, h, c.loop-k-test.false))

@@ -3,45 +3,44 @@ use mathlib.Core.Path.{refl, sym, ap}
 use native.Mathlib.Omega.{arith}
 use Rattle.canonical_json.specs.Lead.{lead_of}
 use Rattle.canonical_json.proofs.Rows.{found}
-use Rattle.std.proofs.Common.{rules}
 use Rattle.canonical_json.proofs.lead.Goals as goal
 
-pub returns_in_224 : goal.returns_in_224
+pub returns-in-224 : goal.returns-in-224
 unfolding lead_of
-returns_in_224 c = sym (ap lead_of c.in-224.is)
+returns-in-224 c = sym (ap lead_of c.in-224.is)
 
-pub returns_in_237 : goal.returns_in_237
+pub returns-in-237 : goal.returns-in-237
 unfolding lead_of
-returns_in_237 c = sym (ap lead_of c.in-237.is)
+returns-in-237 c = sym (ap lead_of c.in-237.is)
 
-pub returns_in_240 : goal.returns_in_240
+pub returns-in-240 : goal.returns-in-240
 unfolding lead_of
-returns_in_240 c = sym (ap lead_of c.in-240.is)
+returns-in-240 c = sym (ap lead_of c.in-240.is)
 
-pub returns_in_244 : goal.returns_in_244
+pub returns-in-244 : goal.returns-in-244
 unfolding lead_of
-returns_in_244 c = sym (ap lead_of c.in-244.is)
+returns-in-244 c = sym (ap lead_of c.in-244.is)
 
-pub returns_in_0_to_31 : goal.returns_in_0_to_31
-returns_in_0_to_31 c = found 0 0 _ (omega arith) refl (omega arith)
+pub returns-in-0-to-31 : goal.returns-in-0-to-31
+returns-in-0-to-31 c = found 0 0 _ (omega arith) refl (omega arith)
 
-pub returns_in_32_to_127 : goal.returns_in_32_to_127
-returns_in_32_to_127 c = found 1 32 _ (omega arith) refl (omega arith)
+pub returns-in-32-to-127 : goal.returns-in-32-to-127
+returns-in-32-to-127 c = found 1 32 _ (omega arith) refl (omega arith)
 
-pub returns_in_128_to_193 : goal.returns_in_128_to_193
-returns_in_128_to_193 c = found 2 128 _ (omega arith) refl (omega arith)
+pub returns-in-128-to-193 : goal.returns-in-128-to-193
+returns-in-128-to-193 c = found 2 128 _ (omega arith) refl (omega arith)
 
-pub returns_in_194_to_223 : goal.returns_in_194_to_223
-returns_in_194_to_223 c = found 3 194 _ (omega arith) refl (omega arith)
+pub returns-in-194-to-223 : goal.returns-in-194-to-223
+returns-in-194-to-223 c = found 3 194 _ (omega arith) refl (omega arith)
 
-pub returns_in_225_to_236 : goal.returns_in_225_to_236
-returns_in_225_to_236 c = found 5 225 _ (omega arith) refl (omega arith)
+pub returns-in-225-to-236 : goal.returns-in-225-to-236
+returns-in-225-to-236 c = found 5 225 _ (omega arith) refl (omega arith)
 
-pub returns_in_238_to_239 : goal.returns_in_238_to_239
-returns_in_238_to_239 c = found 7 238 _ (omega arith) refl (omega arith)
+pub returns-in-238-to-239 : goal.returns-in-238-to-239
+returns-in-238-to-239 c = found 7 238 _ (omega arith) refl (omega arith)
 
-pub returns_in_241_to_243 : goal.returns_in_241_to_243
-returns_in_241_to_243 c = found 9 241 _ (omega arith) refl (omega arith)
+pub returns-in-241-to-243 : goal.returns-in-241-to-243
+returns-in-241-to-243 c = found 9 241 _ (omega arith) refl (omega arith)
 
-pub returns_in_default : goal.returns_in_default
-returns_in_default c = found 11 245 _ (omega arith) refl (omega arith)
+pub returns-in_default : goal.returns-in_default
+returns-in_default c = found 11 245 _ (omega arith) refl (omega arith)

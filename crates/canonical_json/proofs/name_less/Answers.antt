@@ -1,27 +1,20 @@
-use mathlib.Core.Path.{◌≡◌, sym, ◌∙◌}
-use Prim.Native.Nat.{◌-◌}
+use mathlib.Core.Path.{sym, ◌∙◌}
 use native.Mathlib.Omega.{arith}
-use lib.ListN.{length, drop}
-use borrow.Author.Rules.{rules}
-use Rattle.base.specs.Bytes.{less}
+use lib.ListN.{drop}
 use Rattle.canonical_json.specs.Read.{raw}
 use Rattle.canonical_json.specs.Names.{CharAt}
 use Rattle.canonical_json.specs.declared.Char.TheVariants.{Close, Byte}
 use Rattle.canonical_json.proofs.NameLaws as names
-use Rattle.std.proofs.Common.{rules}
 use Rattle.canonical_json.proofs.name_less.Goals as goal
 
-pub returns_in_Close : goal.returns_in_Close
-returns_in_Close c =
-    
+pub returns-in-Close : goal.returns-in-Close
+returns-in-Close c =
     let s = c.args.s.now in
     let y : CharAt s c.loop-y.j Close = rw c.in-Close.is at c.char_at.ensures.means in
     sym (c.loop-y.invariant ∙ names.less-end (raw (drop c.loop-y.i s)) (raw (drop c.loop-y.j s)) y)
 
 pub returns-in-Close-char_at : goal.returns-in-Close-char_at
 returns-in-Close-char_at c =
-    
-    
     let s = c.args.s.now in
     let y : CharAt s c.loop-y.j (Byte c.in-Byte.y c.in-Byte.jj) = rw c.in-Byte.is at c.char_at.ensures.means in
     let x : CharAt s c.loop-y.i Close = rw c.in-Close-char_at.is at c.char_at-in-Byte.ensures.means in
@@ -29,9 +22,6 @@ returns-in-Close-char_at c =
 
 pub returns-then-x-y : goal.returns-then-x-y
 returns-then-x-y c =
-    
-    
-    
     let s = c.args.s.now in
     let y : CharAt s c.loop-y.j (Byte c.in-Byte.y c.in-Byte.jj) = rw c.in-Byte.is at c.char_at.ensures.means in
     let x : CharAt s c.loop-y.i (Byte c.in-Byte-char_at.x c.in-Byte-char_at.ii) = rw c.in-Byte-char_at.is at c.char_at-in-Byte.ensures.means in
@@ -39,17 +29,12 @@ returns-then-x-y c =
 
 pub loop-y-smaller : goal.loop-y-smaller
 loop-y-smaller c =
-    
-    
     let s = c.args.s.now in
     let x : CharAt s c.loop-y.i (Byte c.in-Byte-char_at.x c.in-Byte-char_at.ii) = rw c.in-Byte-char_at.is at c.char_at-in-Byte.ensures.means in
     omega (arith, x.1, x.2)
 
 pub loop-y-preserved : goal.loop-y-preserved
 loop-y-preserved c =
-    
-    
-    
     let s = c.args.s.now in
     let y : CharAt s c.loop-y.j (Byte c.in-Byte.y c.in-Byte.jj) = rw c.in-Byte.is at c.char_at.ensures.means in
     let x : CharAt s c.loop-y.i (Byte c.in-Byte-char_at.x c.in-Byte-char_at.ii) = rw c.in-Byte-char_at.is at c.char_at-in-Byte.ensures.means in

@@ -1,17 +1,10 @@
-use mathlib.Core.Path.{◌≡◌, ◌∙◌}
-use Prim.Native.Nat.{◌-◌}
+use mathlib.Core.Path.{◌∙◌}
 use native.Mathlib.Omega.{arith}
-use lib.ListN.{length, drop}
-use borrow.Author.Rules.{rules}
-use borrow.Author.Tests.{not-false}
-use Rattle.canonical_json.specs.Read.{end_of, read_str}
 use Rattle.canonical_json.proofs.PlainLaws.{plain-run}
-use Rattle.std.proofs.Common.{rules}
 use Rattle.canonical_json.proofs.plain_end.Goals as goal
 
-pub loop_i_preserved : goal.loop_i_preserved
-loop_i_preserved c =
-    
+pub loop-i-preserved : goal.loop-i-preserved
+loop-i-preserved c =
     let s = c.args.s.now in
     let room = c.if-s-i-lt-BLOCK.false in
     c.loop-i.invariant

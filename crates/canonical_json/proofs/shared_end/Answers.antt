@@ -1,29 +1,22 @@
-use borrow.Author.Rules.{rules}
-use mathlib.Core.Path.{◌≡◌, ◌∙◌}
-use Prim.Native.Nat.{◌-◌}
+use mathlib.Core.Path.{◌∙◌}
 use native.Mathlib.Omega.{arith}
-use lib.ListN.{length, drop}
-use borrow.Author.Tests.{not-false}
-use Rattle.base.specs.Bytes.{less}
-use Rattle.canonical_json.specs.Read.{raw}
 use Rattle.canonical_json.proofs.SharedLaws.{shared-run}
-use Rattle.std.proofs.Common.{rules}
 use Rattle.canonical_json.proofs.shared_end.Goals as goal
 
-pub returns-then_s_i_lt_BLOCK : goal.returns-then_s_i_lt_BLOCK
-returns-then_s_i_lt_BLOCK c = c.loop-i.invariant
+pub returns-then-s-i-lt-BLOCK : goal.returns-then-s-i-lt-BLOCK
+returns-then-s-i-lt-BLOCK c = c.loop-i.invariant
 
-pub returns-then_s_j : goal.returns-then_s_j
-returns-then_s_j c = c.loop-i.invariant
+pub returns-then-s-j : goal.returns-then-s-j
+returns-then-s-j c = c.loop-i.invariant
 
-pub returns-then_s_j_lt_BLOCK : goal.returns-then_s_j_lt_BLOCK
-returns-then_s_j_lt_BLOCK c = c.loop-i.invariant
+pub returns-then-s-j-lt-BLOCK : goal.returns-then-s-j-lt-BLOCK
+returns-then-s-j-lt-BLOCK c = c.loop-i.invariant
 
 pub returns-then-not-is_shared_block : goal.returns-then-not-is_shared_block
 returns-then-not-is_shared_block c = c.loop-i.invariant
 
-pub loop_i_preserved : goal.loop_i_preserved
-loop_i_preserved c =
+pub loop-i-preserved : goal.loop-i-preserved
+loop-i-preserved c =
     let l = c.loop-i in
     let s = c.args.s.now in
     l.invariant ∙ shared-run s l.i l.j 16 (omega arith) (omega arith) (c.is_shared_block.ensures c.if-not-is_shared_block.false)

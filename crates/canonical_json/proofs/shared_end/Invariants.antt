@@ -1,17 +1,13 @@
 -- `shared_end` meets its contract. The invariant: the names compare as their rests from `i` and `j` on.
-use borrow.Author.Rules.{rules}
-use mathlib.Core.Path.{◌≡◌, ◌∙◌}
+use mathlib.Core.Path.{◌≡◌}
 use Prim.Native.Nat.{◌-◌}
-use native.Mathlib.Omega.{arith}
 use lib.ListN.{length, drop}
-use borrow.Author.Tests.{not-false}
 use Rattle.base.specs.Bytes.{less}
 use Rattle.canonical_json.specs.Read.{raw}
-use Rattle.canonical_json.proofs.SharedLaws.{shared-run}
 use Rattle.canonical_json.proofs.shared_end.Given as goal
 
-abbrev pub invariant_loop_i : goal.invariant_loop_i
-invariant_loop_i l = less (raw (drop l.a l.s)) (raw (drop l.b l.s)) ≡ less (raw (drop l.i l.s)) (raw (drop l.j l.s))
+abbrev pub invariant-loop-i : goal.invariant-loop-i
+invariant-loop-i l = less (raw (drop l.a l.s)) (raw (drop l.b l.s)) ≡ less (raw (drop l.i l.s)) (raw (drop l.j l.s))
 
-abbrev pub decreases_loop_i : goal.decreases_loop_i
-decreases_loop_i l = length l.s - l.i
+abbrev pub decreases-loop-i : goal.decreases-loop-i
+decreases-loop-i l = length l.s - l.i

@@ -1,50 +1,43 @@
-use mathlib.Core.Path.{◌≡◌, sym, ◌∙◌}
-use Prim.Native.Nat.{◌+◌, ◌-◌}
+use mathlib.Core.Path.{sym, ◌∙◌}
+use Prim.Native.Nat.{◌+◌}
 use native.Mathlib.Omega.{arith}
-use lib.ListN.{length, drop}
-use borrow.Author.Rules.{rules}
-use Rattle.canonical_json.specs.Read.{end_of, read_str}
+use lib.ListN.{drop}
+use Rattle.canonical_json.specs.Read.{read_str}
 use Rattle.canonical_json.specs.Strings.{Skips}
 use Rattle.canonical_json.specs.declared.Skip.TheVariants.{No, End}
 use Rattle.canonical_json.proofs.Chars as strings
-use Rattle.std.proofs.Common.{rules}
 use Rattle.canonical_json.proofs.string.Goals as goal
 
-pub loop_i_init : goal.loop_i_init
-loop_i_init c = c.plain_end-i.ensures
+pub loop-i-init : goal.loop-i-init
+loop-i-init c = c.plain_end-i.ensures
 
-pub returns-then_s_i_eq34 : goal.returns-then_s_i_eq34
-returns-then_s_i_eq34 c =
-    
+pub returns-then-s-i-eq34 : goal.returns-then-s-i-eq34
+returns-then-s-i-eq34 c =
     let s = c.args.s.now in
     sym (c.loop-i.invariant ∙ strings.quote s c.loop-i.i c.loop-i-test.true c.if-s-i-eq34.true)
 
 pub char_end-requires : goal.char_end-requires
 char_end-requires c = (c.loop-i-test.true, c.if-s-i-eq34.false)
 
-pub returns_in_No : goal.returns_in_No
-returns_in_No c =
-    
+pub returns-in-No : goal.returns-in-No
+returns-in-No c =
     let s = c.args.s.now in
     let e : Skips s (read_str (drop c.loop-i.i s)) (c.loop-i.i + 1) No = rw c.in-No.is at c.char_end.ensures in
     sym (c.loop-i.invariant ∙ e)
 
 pub loop-i-smaller : goal.loop-i-smaller
 loop-i-smaller c =
-    
     let s = c.args.s.now in
     let e : Skips s (read_str (drop c.loop-i.i s)) (c.loop-i.i + 1) (End c.in-End.e) = rw c.in-End.is at c.char_end.ensures in
     omega (arith, e.1, c.loop-i-test.true)
 
-pub loop_i_preserved : goal.loop_i_preserved
-loop_i_preserved c =
-    
+pub loop-i-preserved : goal.loop-i-preserved
+loop-i-preserved c =
     let s = c.args.s.now in
     let e : Skips s (read_str (drop c.loop-i.i s)) (c.loop-i.i + 1) (End c.in-End.e) = rw c.in-End.is at c.char_end.ensures in
     c.loop-i.invariant ∙ e.0
 
 pub returns : goal.returns
 returns c =
-    
     let s = c.args.s.now in
     sym (c.loop-i.invariant ∙ strings.over s c.loop-i.i 0 0 0 c.loop-i-test.false)

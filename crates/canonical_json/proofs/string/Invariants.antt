@@ -1,17 +1,12 @@
 -- `canonical_json::string` meets its contract. The invariant: the string ends where it ends when it is read from `i` on.
-use mathlib.Core.Path.{◌≡◌, sym, ◌∙◌}
-use Prim.Native.Nat.{◌+◌, ◌-◌}
-use native.Mathlib.Omega.{arith}
+use mathlib.Core.Path.{◌≡◌}
+use Prim.Native.Nat.{◌-◌}
 use lib.ListN.{length, drop}
-use borrow.Author.Rules.{rules}
 use Rattle.canonical_json.specs.Read.{end_of, read_str}
-use Rattle.canonical_json.specs.Strings.{Skips}
-use Rattle.canonical_json.specs.declared.Skip.TheVariants.{No, End}
-use Rattle.canonical_json.proofs.Chars as strings
 use Rattle.canonical_json.proofs.string.Given as goal
 
-abbrev pub invariant_loop_i : goal.invariant_loop_i
-invariant_loop_i l = end_of (length l.s) (read_str (drop l.at l.s)) ≡ end_of (length l.s) (read_str (drop l.i l.s))
+abbrev pub invariant-loop-i : goal.invariant-loop-i
+invariant-loop-i l = end_of (length l.s) (read_str (drop l.at l.s)) ≡ end_of (length l.s) (read_str (drop l.i l.s))
 
-abbrev pub decreases_loop_i : goal.decreases_loop_i
-decreases_loop_i l = length l.s - l.i
+abbrev pub decreases-loop-i : goal.decreases-loop-i
+decreases-loop-i l = length l.s - l.i

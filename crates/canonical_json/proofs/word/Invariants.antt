@@ -1,15 +1,12 @@
 -- `canonical_json::word` meets its contract. The invariant: the word stands at `at` where its rest stands at `i`.
-use mathlib.Core.Path.{◌≡◌, sym, ◌∙◌}
+use mathlib.Core.Path.{◌≡◌}
 use Prim.Native.Nat.{◌≤◌, ◌-◌}
-use native.Mathlib.Omega.{arith}
 use lib.ListN.{length, drop}
-use borrow.Author.Rules.{rules}
 use Rattle.canonical_json.specs.Read.{end_of, word}
-use Rattle.canonical_json.proofs.Words as words
 use Rattle.canonical_json.proofs.word.Given as goal
 
-abbrev pub invariant_loop-k : goal.invariant_loop-k
-invariant_loop-k l = (l.i ≤ length l.s) × (end_of (length l.s) (word l.w (drop l.at l.s)) ≡ end_of (length l.s) (word (drop l.k l.w) (drop l.i l.s)))
+abbrev pub invariant-loop-k : goal.invariant-loop-k
+invariant-loop-k l = (l.i ≤ length l.s) × (end_of (length l.s) (word l.w (drop l.at l.s)) ≡ end_of (length l.s) (word (drop l.k l.w) (drop l.i l.s)))
 
-abbrev pub decreases_loop-k : goal.decreases_loop-k
-decreases_loop-k l = length l.w - l.k
+abbrev pub decreases-loop-k : goal.decreases-loop-k
+decreases-loop-k l = length l.w - l.k

@@ -1,5 +1,8 @@
 -- `civil_date` refuses each number out of its range, and else gives the count of seconds.
 use mathlib.Core.Path.{◌≡◌, ◌∙◌, ap}
+use Prim.Native.Nat.{ℕ, ◌≤◌}
+use Rattle.date.specs.Calendar.{month_days}
+use Rattle.date.specs.Parts.{Civil}
 use mathlib.Core.Option.{some}
 use native.Mathlib.Omega.{arith}
 use mir.Syntax.{w64}
@@ -30,22 +33,26 @@ returns-then-minute-gt59 c = past-minutes _ _ _ _ _ _ c.if-minute-gt59.true
 pub returns-then-second-gt59 : goal.returns-then-second-gt59
 returns-then-second-gt59 c = past-seconds _ _ _ _ _ _ c.if-second-gt59.true
 
-pub civil_seconds-requires : goal.civil_seconds-requires
-civil_seconds-requires c =
-    let a = c.args in
+-- the numbers are in their ranges
+in_range : (year month day hour minute second : ℕ) → year ≤ 9999 → 1 ≤ month → month ≤ 12 → 1 ≤ day → day ≤ month_days year month → hour ≤ 23 → minute ≤ 59
+    → second ≤ 59 → Civil year month day hour minute second
+in_range year month day hour minute second a b c d e f g h =
     record {
-      years = omega arith;
-      first_month = omega arith;
-      months = omega arith;
-      first_day = omega arith;
-      days = omega (arith, month-most a.year a.month);
-      hours = omega arith;
-      minutes = omega arith;
-      seconds = omega arith;
+      years = a;
+      first_month = b;
+      months = c;
+      first_day = d;
+      days = omega (arith, month-most year month);
+      hours = f;
+      minutes = g;
+      seconds = h;
     }
+
+pub civil_seconds-requires : goal.civil_seconds-requires
+civil_seconds-requires c = search (rules, in_range)
 
 pub returns : goal.returns
 returns c =
     let r = c.civil_seconds.result in
     let e : to_z w64 (of_z w64 r) ≡ r = search rules in
-    ap some (e ∙ c.civil_seconds.ensures) ∙ civil _ _ _ _ _ _ (civil_seconds-requires c c.civil_seconds.lifetimes) (omega arith)
+    ap some (e ∙ c.civil_seconds.ensures) ∙ civil _ _ _ _ _ _ (search (rules, in_range)) (omega arith)

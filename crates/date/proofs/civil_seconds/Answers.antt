@@ -9,8 +9,6 @@ use Rattle.date.specs.Calendar.{years_before, first_months, day_number, second_n
 use Rattle.date.specs.Parts.{Civil}
 use Rattle.date.proofs.CalendarLaws.{years-closed, epoch-days, epoch-seconds}
 use Rattle.date.proofs.Differences.{W, Fits, fits, bits, nat, plus, times}
-use borrow.Author.Rules.{rules}
-use Rattle.std.proofs.Common.{rules}
 use Rattle.date.proofs.civil_seconds.Goals as goal
 
 module _ (y m d h mi s : ℕ) (p : Civil y m d h mi s) {z : ℤ} (e : z ≡ pos (years_before y) -ℤ pos (years_before 1970)) where
@@ -36,7 +34,7 @@ pub overflow_mul-result : goal.overflow_mul-result
 overflow_mul-result c = let a = c.args in fits (year a.year a.month a.day a.hour a.minute a.second c.requires c.year_start.ensures)
 
 pub overflow_add-result : goal.overflow_add-result
-overflow_add-result c = let a = c.args in fits (all a.year a.month a.day a.hour a.minute a.second c.requires c.year_start.ensures _ c.months_before.ensures.0 c.months_before.ensures.1)
+overflow_add-result c = let a = c.args in fits (all a.year a.month a.day a.hour a.minute a.second c.requires c.year_start.ensures _ c.months_before.ensures.value c.months_before.ensures.upper_bound)
 
 pub returns : goal.returns
-returns c = let a = c.args in total a.year a.month a.day a.hour a.minute a.second c.requires c.year_start.ensures _ c.months_before.ensures.0 c.months_before.ensures.1
+returns c = let a = c.args in total a.year a.month a.day a.hour a.minute a.second c.requires c.year_start.ensures _ c.months_before.ensures.value c.months_before.ensures.upper_bound

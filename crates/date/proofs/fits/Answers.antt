@@ -3,7 +3,6 @@ use mathlib.Core.Path.{◌∙◌, sym}
 use borrow.Author.Tests.{le-leb}
 use Rattle.base.proofs.ByteLaws.{digit_low}
 use Rattle.date.proofs.FormLaws.{fits_itself, fits-digit}
-use Rattle.std.proofs.Common.{arith, rules}
 use Rattle.date.proofs.fits.Goals as goal
 
 pub returns-then-f-ne48 : goal.returns-then-f-ne48

@@ -9,10 +9,8 @@ use lib.Signed.{mag, lt_z, quot_z}
 use mir.Syntax.{w64}
 use mir.Val.{SFits, to_z}
 use mir.Facts.{to_z-of_z, to_z_pos}
-use borrow.Author.Rules.{rules}
 use Rattle.date.specs.Parts.{floor_div}
 use Rattle.date.proofs.Differences.{W, neg_one, floor_neg, from_one, not_neg, floor-pos}
-use Rattle.std.proofs.Common.{rules}
 use Rattle.date.proofs.floor_div.Goals as goal
 
 module _ (a : ℤ) (m : ℕ) (f : SFits w64 a) (p : m < 1000) where

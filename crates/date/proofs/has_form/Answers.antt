@@ -1,12 +1,6 @@
-use Prim.Native.Nat.{◌≤◌, ◌-◌}
 use native.Mathlib.Omega.{arith}
-use mathlib.Core.Path.{◌≡◌, refl, ◌∙◌, sym}
-use lib.ListN.{length, drop}
-use borrow.Author.Rules.{rules}
-use borrow.Author.Tests.{not-true, not-false}
-use Rattle.date.specs.Calendar.{has_form}
+use mathlib.Core.Path.{refl, ◌∙◌, sym}
 use Rattle.date.proofs.FormLaws.{form_lengths, form-apart, form-next, form-end}
-use Rattle.std.proofs.Common.{rules}
 use Rattle.date.proofs.has_form.Goals as goal
 
 pub returns-then-form-s : goal.returns-then-form-s

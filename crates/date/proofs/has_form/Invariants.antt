@@ -1,12 +1,8 @@
 -- `has_form` compares byte by byte: what is left of both compares as the whole does.
 use Prim.Native.Nat.{◌≤◌, ◌-◌}
-use native.Mathlib.Omega.{arith}
-use mathlib.Core.Path.{◌≡◌, refl, ◌∙◌, sym}
+use mathlib.Core.Path.{◌≡◌}
 use lib.ListN.{length, drop}
-use borrow.Author.Rules.{rules}
-use borrow.Author.Tests.{not-true, not-false}
 use Rattle.date.specs.Calendar.{has_form}
-use Rattle.date.proofs.FormLaws.{form_lengths, form-apart, form-next, form-end}
 use Rattle.date.proofs.has_form.Given as goal
 
 abbrev pub invariant-loop-i : goal.invariant-loop-i

@@ -1,7 +1,6 @@
 -- `leap_day` tests the rarest rule first.
 use borrow.Author.Tests.{eq-eqb, ne_eqb}
 use mathlib.Core.Bool.{or-true, and-false}
-use Rattle.std.proofs.Common.{arith, rules}
 use Rattle.date.proofs.leap_day.Goals as goal
 
 pub returns-then-year-eq0 : goal.returns-then-year-eq0

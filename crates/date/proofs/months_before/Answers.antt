@@ -1,10 +1,8 @@
-use Prim.Native.Nat.{ℕ, ◌≤◌, ◌*◌, ◌-◌, ◌+◌}
+use Prim.Native.Nat.{ℕ, ◌≤◌, ◌-◌, ◌+◌}
 use mathlib.Core.Path.{◌≡◌, refl}
 use native.Mathlib.Omega.{arith}
-use borrow.Author.Rules.{rules}
 use Rattle.date.specs.Calendar.{month_days, first_months}
 use Rattle.date.proofs.CalendarLaws.{months-next, month-most}
-use Rattle.std.proofs.Common.{rules}
 use Rattle.date.proofs.months_before.Goals as goal
 
 next : (y k days r : ℕ) → 1 ≤ k → days ≡ first_months y (k - 1) → r ≡ month_days y k → days + r ≡ first_months y (k + 1 - 1)
@@ -21,8 +19,7 @@ pub overflow_add-days : goal.overflow_add-days
 overflow_add-days c = omega (arith, few c.args.year c.loop-k.k c.month_days-days.result c.month_days-days.ensures)
 
 pub loop-k-preserved : goal.loop-k-preserved
-loop-k-preserved c =
- (
+loop-k-preserved c = (
   omega arith,
   (
     omega arith,
@@ -31,4 +28,4 @@ loop-k-preserved c =
 )
 
 pub returns : goal.returns
-returns c = let e : c.loop-k.k ≡ c.args.month = omega arith in (rw e at c.loop-k.invariant.1.1.0, omega arith)
+returns c = let e : c.loop-k.k ≡ c.args.month = omega arith in record { value = rw e at c.loop-k.invariant.1.1.0; upper_bound = omega arith }

@@ -1,11 +1,8 @@
 -- `months_before` adds up the months that have passed.
 -- one month more, by what month_days ensures
-use Prim.Native.Nat.{ℕ, ◌≤◌, ◌*◌, ◌-◌, ◌+◌}
-use mathlib.Core.Path.{◌≡◌, refl}
-use native.Mathlib.Omega.{arith}
-use borrow.Author.Rules.{rules}
-use Rattle.date.specs.Calendar.{month_days, first_months}
-use Rattle.date.proofs.CalendarLaws.{months-next, month-most}
+use Prim.Native.Nat.{◌≤◌, ◌*◌, ◌-◌}
+use mathlib.Core.Path.{◌≡◌}
+use Rattle.date.specs.Calendar.{first_months}
 use Rattle.date.proofs.months_before.Given as goal
 
 abbrev pub invariant-loop-k : goal.invariant-loop-k

@@ -1,10 +1,7 @@
 -- `parse` tests the form, and then reads the six numbers.
 use mathlib.Core.Path.{refl, sym, ◌∙◌}
-use borrow.Author.Tests.{not-true, not-false}
 use Rattle.date.proofs.FormLaws.{digits-at}
 use Rattle.date.proofs.CalendarLaws.{no-form, date-form}
-use borrow.Author.Rules.{rules}
-use Rattle.std.proofs.Common.{arith, rules}
 use Rattle.date.proofs.parse.Goals as goal
 
 pub returns-then-not-has_form : goal.returns-then-not-has_form
@@ -33,5 +30,4 @@ two_digits-second-requires c = digits-at _ c.has_form.ensures c.if-not-has_form.
 
 pub returns : goal.returns
 returns c =
-    
     cc (date-form c.args.s.now (sym c.has_form.ensures ∙ c.if-not-has_form.false))

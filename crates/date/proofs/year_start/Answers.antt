@@ -5,12 +5,10 @@ use native.Mathlib.Omega.{arith}
 use lib.IntN.{ℤ, pos, ◌-ℤ◌, ◌+ℤ◌, ◌*ℤ◌}
 use mir.Syntax.{w64}
 use mir.Val.{SFits, to_z}
-use borrow.Author.Rules.{rules}
 use Rattle.date.specs.Calendar.{years_before}
 use Rattle.date.specs.Parts.{floor_div}
 use Rattle.date.proofs.CalendarLaws.{years-closed, epoch-days}
 use Rattle.date.proofs.Differences.{W, Fits, fits, bits, nat, literal, plus, minus, times, floor}
-use Rattle.std.proofs.Common.{rules}
 use Rattle.date.proofs.year_start.Goals as goal
 
 module _ (y : ℕ) (h : y ≤ 9999) where
@@ -76,20 +74,16 @@ overflow_mul-result c = fits (days c.args.year c.requires)
 
 pub overflow_add-result : goal.overflow_add-result
 overflow_add-result c =
-    
     fits (one c.args.year c.requires c.floor_div-fours.ensures c.floor_div-hundreds.ensures c.floor_div-four_hundreds.ensures)
 
 pub overflow_sub-result : goal.overflow_sub-result
 overflow_sub-result c =
-    
     fits (two c.args.year c.requires c.floor_div-fours.ensures c.floor_div-hundreds.ensures c.floor_div-four_hundreds.ensures)
 
 pub overflow_add-result-2 : goal.overflow_add-result-2
 overflow_add-result-2 c =
-    
     fits (three c.args.year c.requires c.floor_div-fours.ensures c.floor_div-hundreds.ensures c.floor_div-four_hundreds.ensures)
 
 pub returns : goal.returns
 returns c =
-    
     total c.args.year c.requires c.floor_div-fours.ensures c.floor_div-hundreds.ensures c.floor_div-four_hundreds.ensures

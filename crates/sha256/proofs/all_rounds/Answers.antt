@@ -1,4 +1,4 @@
-use Rattle.std.proofs.Common.{◌≡◌, ◌+◌, ◌-◌, ◌≤◌, length, drop, sym, refl, ap, ◌∙◌, arith, rules}
+use Rattle.std.proofs.Common.{◌≡◌, ◌+◌, length, drop, sym, refl, ap, ◌∙◌, arith, rules}
 use Rattle.sha256.specs.Constants.{constants}
 use Rattle.sha256.specs.Compress.{rounds}
 use Rattle.sha256.specs.declared.Hash.{Hash}
@@ -13,7 +13,7 @@ pub loop-t-preserved : goal.loop-t-preserved
 unfolding constants
 loop-t-preserved c =
     let l = c.loop-t in
-    let w = c.args.t2 in
+    let w = c.args.w in
     let n : length w ≡ 64 = search rules in (
       omega arith,
       l.invariant.1 ∙ rounds-next l.v constants w l.t (omega arith) (omega arith)

@@ -1,9 +1,7 @@
 -- `all_rounds`: the rounds from t on are left.
-use Rattle.std.proofs.Common.{◌≡◌, ◌+◌, ◌-◌, ◌≤◌, length, drop, sym, refl, ap, ◌∙◌, arith, rules}
+use Rattle.std.proofs.Common.{◌≡◌, ◌-◌, ◌≤◌, drop}
 use Rattle.sha256.specs.Constants.{constants}
 use Rattle.sha256.specs.Compress.{rounds}
-use Rattle.sha256.specs.declared.Hash.{Hash}
-use Rattle.sha256.proofs.RoundLaws.{rounds-next, rounds-end}
 use Rattle.sha256.proofs.all_rounds.Given as goal
 
 abbrev pub invariant-loop-t : goal.invariant-loop-t

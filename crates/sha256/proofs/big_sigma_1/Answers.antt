@@ -1,7 +1,5 @@
 -- `big_sigma_1`: by definition.
 use Rattle.sha256.specs.Words.{Σ₁}
-use Rattle.std.proofs.Common.{rules}
-use Rattle.std.proofs.Common.{arith, rules}
 use Rattle.sha256.proofs.big_sigma_1.Goals as goal
 
 pub returns : goal.returns

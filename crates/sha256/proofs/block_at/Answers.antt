@@ -1,7 +1,6 @@
-use Rattle.std.proofs.Common.{◌≡◌, ◌-◌, ◌≤◌, length, take, refl, ◌∙◌, arith, length-set, take_all}
+use Rattle.std.proofs.Common.{◌≡◌, refl, ◌∙◌, arith, length-set, take_all}
 use Rattle.sha256.specs.Message.{words_at}
 use Rattle.sha256.proofs.BlockLaws.{fill-next, length-words_at, words_at-at}
-use Rattle.std.proofs.Common.{rules}
 use Rattle.sha256.proofs.block_at.Goals as goal
 
 pub loop-k-init : goal.loop-k-init

@@ -1,7 +1,6 @@
 -- `block_at`: the first k words are read.
-use Rattle.std.proofs.Common.{◌≡◌, ◌-◌, ◌≤◌, length, take, refl, ◌∙◌, arith, length-set, take_all}
+use Rattle.std.proofs.Common.{◌≡◌, ◌-◌, ◌≤◌, length, take}
 use Rattle.sha256.specs.Message.{words_at}
-use Rattle.sha256.proofs.BlockLaws.{fill-next, length-words_at, words_at-at}
 use Rattle.sha256.proofs.block_at.Given as goal
 
 abbrev pub invariant-loop-k : goal.invariant-loop-k

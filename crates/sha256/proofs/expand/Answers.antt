@@ -1,4 +1,4 @@
-use Rattle.std.proofs.Common.{◌≡◌, ◌-◌, ◌≤◌, length, take, sym, refl, ◌∙◌, arith, length-set, take_all, rules}
+use Rattle.std.proofs.Common.{◌≡◌, take, sym, refl, ◌∙◌, arith, length-set, take_all, rules}
 use Rattle.sha256.specs.Compress.{schedule}
 use Rattle.sha256.proofs.RoundLaws.{schedule-next}
 use Rattle.std.proofs.Common.{rules}

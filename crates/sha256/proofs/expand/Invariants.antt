@@ -1,7 +1,6 @@
 -- `expand`: the first t words of the schedule are written.
-use Rattle.std.proofs.Common.{◌≡◌, ◌-◌, ◌≤◌, length, take, sym, refl, ◌∙◌, arith, length-set, take_all, rules}
+use Rattle.std.proofs.Common.{◌≡◌, ◌-◌, ◌≤◌, length, take}
 use Rattle.sha256.specs.Compress.{schedule}
-use Rattle.sha256.proofs.RoundLaws.{schedule-next}
 use Rattle.sha256.proofs.expand.Given as goal
 
 abbrev pub invariant-loop-t : goal.invariant-loop-t

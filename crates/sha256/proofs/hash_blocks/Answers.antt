@@ -1,7 +1,6 @@
-use Rattle.std.proofs.Common.{◌≡◌, ◌-◌, ◌/◌, ◌≤◌, length, refl, arith, rules}
+use Rattle.std.proofs.Common.{◌≡◌, ◌/◌, length, refl, arith}
 use Rattle.sha256.specs.Message.{hashed}
 use Rattle.sha256.proofs.BlockLaws.{hashed-next}
-use Rattle.std.proofs.Common.{rules}
 use Rattle.sha256.proofs.hash_blocks.Goals as goal
 
 pub loop-b-init : goal.loop-b-init

@@ -1,7 +1,6 @@
 -- `hash_blocks`: the first b blocks are done.
-use Rattle.std.proofs.Common.{◌≡◌, ◌-◌, ◌/◌, ◌≤◌, length, refl, arith, rules}
+use Rattle.std.proofs.Common.{◌≡◌, ◌-◌, ◌≤◌}
 use Rattle.sha256.specs.Message.{hashed}
-use Rattle.sha256.proofs.BlockLaws.{hashed-next}
 use Rattle.sha256.proofs.hash_blocks.Given as goal
 
 abbrev pub invariant-loop-b : goal.invariant-loop-b

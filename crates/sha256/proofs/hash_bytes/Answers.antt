@@ -1,9 +1,8 @@
-use Rattle.std.proofs.Common.{◌≡◌, ◌-◌, ◌≤◌, length, take, sym, refl, ◌∙◌, arith, length-set, take_all}
-use Rattle.sha256.specs.Message.{word_bytes, hash_bytes}
+use Rattle.std.proofs.Common.{◌≡◌, sym, refl, ◌∙◌, arith, length-set, take_all}
+use Rattle.sha256.specs.Message.{hash_bytes}
 use Rattle.sha256.proofs.EndianLaws.{word_byte-at}
 use Rattle.sha256.proofs.BlockLaws.{fill-next}
 use Rattle.sha256.proofs.DigestLaws.{length-hash_bytes}
-use Rattle.std.proofs.Common.{rules}
 use Rattle.sha256.proofs.hash_bytes.Goals as goal
 
 pub loop-i-init : goal.loop-i-init

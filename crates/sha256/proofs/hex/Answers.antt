@@ -1,7 +1,5 @@
-use Rattle.std.proofs.Common.{◌≡◌, ◌-◌, ◌*◌, ◌≤◌, ◌++◌, length, take, drop, sym, refl, ◌∙◌, arith, length-set, rules}
-use Rattle.base.specs.Hex.{hex_of}
+use Rattle.std.proofs.Common.{sym, refl, ◌∙◌, arith, length-set}
 use Rattle.base.proofs.HexLaws.{hex_of-next, hex_of-end}
-use Rattle.std.proofs.Common.{rules}
 use Rattle.sha256.proofs.hex.Goals as goal
 
 pub loop-i-init : goal.loop-i-init

@@ -1,7 +1,6 @@
 -- `hex`: the digits of the first i bytes are written.
-use Rattle.std.proofs.Common.{◌≡◌, ◌-◌, ◌*◌, ◌≤◌, ◌++◌, length, take, drop, sym, refl, ◌∙◌, arith, length-set, rules}
+use Rattle.std.proofs.Common.{◌≡◌, ◌-◌, ◌*◌, ◌≤◌, ◌++◌, length, take, drop}
 use Rattle.base.specs.Hex.{hex_of}
-use Rattle.base.proofs.HexLaws.{hex_of-next, hex_of-end}
 use Rattle.sha256.proofs.hex.Given as goal
 
 abbrev pub invariant-loop-i : goal.invariant-loop-i

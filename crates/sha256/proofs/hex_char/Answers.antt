@@ -1,7 +1,6 @@
 -- `hex_char`: ten decimal digits, then letters.
-use Rattle.std.proofs.Common.{sym, rules}
+use Rattle.std.proofs.Common.{sym}
 use Rattle.base.proofs.HexLaws.{digit-decimal, digit-letter}
-use Rattle.std.proofs.Common.{arith, rules}
 use Rattle.sha256.proofs.hex_char.Goals as goal
 
 pub returns-then-d-lt10 : goal.returns-then-d-lt10

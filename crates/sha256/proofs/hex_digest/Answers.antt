@@ -1,7 +1,6 @@
 -- `hex_digest`: the digest, then its digits.
-use Rattle.std.proofs.Common.{ap, ◌∙◌, rules}
+use Rattle.std.proofs.Common.{ap, ◌∙◌}
 use Rattle.base.specs.Hex.{hex_of}
-use Rattle.std.proofs.Common.{arith, rules}
 use Rattle.sha256.proofs.hex_digest.Goals as goal
 
 pub returns : goal.returns

@@ -1,7 +1,6 @@
 -- `length_byte`: a byte of the length by its place among the bits.
-use Rattle.std.proofs.Common.{arith, rules}
+use Rattle.std.proofs.Common.{arith}
 use Rattle.sha256.proofs.PaddingLaws.{length_byte-at}
-use Rattle.std.proofs.Common.{rules}
 use Rattle.sha256.proofs.length_byte.Goals as goal
 
 pub returns : goal.returns

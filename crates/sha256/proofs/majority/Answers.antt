@@ -1,7 +1,6 @@
 -- `majority`: by definition.
 use Rattle.std.proofs.Common.{refl}
 use Rattle.sha256.specs.Words.{maj}
-use Rattle.std.proofs.Common.{arith, rules}
 use Rattle.sha256.proofs.majority.Goals as goal
 
 pub returns : goal.returns

@@ -1,7 +1,6 @@
 -- `padded_byte`: one law for each part of the padded message.
-use Rattle.std.proofs.Common.{◌-◌, length, ◌∙◌, arith, rules}
+use Rattle.std.proofs.Common.{◌-◌, length, ◌∙◌, arith}
 use Rattle.sha256.proofs.PaddingLaws.{padded_message, padded_mark, padded-zero, padded-length}
-use Rattle.std.proofs.Common.{rules}
 use Rattle.sha256.proofs.padded_byte.Goals as goal
 
 pub returns-then-i-n : goal.returns-then-i-n

@@ -1,9 +1,7 @@
 -- `plus`: by definition.
 use Rattle.sha256.specs.Words.{add}
-use Rattle.std.proofs.Common.{rules}
-use Rattle.std.proofs.Common.{arith, rules}
 use Rattle.sha256.proofs.plus.Goals as goal
 
 pub returns : goal.returns
 unfolding add
-returns c = c.wrapping_add_u32.ensures
+returns c = c.wrapping_add_u32.ensures.value

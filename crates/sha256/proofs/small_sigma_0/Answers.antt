@@ -1,7 +1,5 @@
 -- `small_sigma_0`: by definition.
 use Rattle.sha256.specs.Words.{σ₀, shr}
-use Rattle.std.proofs.Common.{rules}
-use Rattle.std.proofs.Common.{arith, rules}
 use Rattle.sha256.proofs.small_sigma_0.Goals as goal
 
 pub returns : goal.returns

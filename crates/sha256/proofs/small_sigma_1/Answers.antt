@@ -1,7 +1,5 @@
 -- `small_sigma_1`: by definition.
 use Rattle.sha256.specs.Words.{σ₁, shr}
-use Rattle.std.proofs.Common.{rules}
-use Rattle.std.proofs.Common.{arith, rules}
 use Rattle.sha256.proofs.small_sigma_1.Goals as goal
 
 pub returns : goal.returns

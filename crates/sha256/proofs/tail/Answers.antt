@@ -1,9 +1,8 @@
-use Rattle.std.proofs.Common.{◌≡◌, ◌-◌, ◌*◌, ◌/◌, ◌≤◌, length, take, drop, sym, refl, ◌∙◌, arith, length-set, get_or-drop}
+use Rattle.std.proofs.Common.{◌≡◌, ◌*◌, ◌/◌, length, drop, sym, refl, ◌∙◌, arith, length-set, get_or-drop}
 use lib.Seq.{take-length}
 use Rattle.sha256.specs.Message.{padded}
 use Rattle.sha256.proofs.BlockLaws.{fill-next}
 use Rattle.sha256.proofs.PaddingLaws.{length-tail}
-use Rattle.std.proofs.Common.{rules}
 use Rattle.sha256.proofs.tail.Goals as goal
 
 pub loop-k-init : goal.loop-k-init

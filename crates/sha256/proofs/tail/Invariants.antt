@@ -1,9 +1,6 @@
 -- `tail`: the first k bytes are written.
-use Rattle.std.proofs.Common.{◌≡◌, ◌-◌, ◌*◌, ◌/◌, ◌≤◌, length, take, drop, sym, refl, ◌∙◌, arith, length-set, get_or-drop}
-use lib.Seq.{take-length}
+use Rattle.std.proofs.Common.{◌≡◌, ◌-◌, ◌≤◌, length, take, drop}
 use Rattle.sha256.specs.Message.{padded}
-use Rattle.sha256.proofs.BlockLaws.{fill-next}
-use Rattle.sha256.proofs.PaddingLaws.{length-tail}
 use Rattle.sha256.proofs.tail.Given as goal
 
 abbrev pub invariant-loop-k : goal.invariant-loop-k

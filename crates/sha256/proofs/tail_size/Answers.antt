@@ -1,11 +1,10 @@
 -- `tail_size`: one block where the length has room in it, or two.
-use Rattle.std.proofs.Common.{arith, rules}
+use Rattle.std.proofs.Common.{arith}
 use Rattle.sha256.proofs.PaddingLaws.{tail_short, tail-long}
-use Rattle.std.proofs.Common.{rules}
 use Rattle.sha256.proofs.tail_size.Goals as goal
 
 pub returns-then-n-lt-ROOM : goal.returns-then-n-lt-ROOM
-returns-then-n-lt-ROOM c = (tail_short _ c.if-n-lt-ROOM.true, omega arith)
+returns-then-n-lt-ROOM c = record { value = tail_short _ c.if-n-lt-ROOM.true; upper_bound = omega arith }
 
 pub returns : goal.returns
-returns c = (tail-long _ c.if-n-lt-ROOM.false, omega arith)
+returns c = record { value = tail-long _ c.if-n-lt-ROOM.false; upper_bound = omega arith }

@@ -1,7 +1,6 @@
 -- `word_byte`: a byte by its place among the bits.
-use Rattle.std.proofs.Common.{arith, rules}
+use Rattle.std.proofs.Common.{arith}
 use Rattle.sha256.proofs.EndianLaws.{byte_at}
-use Rattle.std.proofs.Common.{rules}
 use Rattle.sha256.proofs.word_byte.Goals as goal
 
 pub returns : goal.returns

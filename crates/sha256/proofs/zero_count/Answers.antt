@@ -1,7 +1,6 @@
 -- `zero_count`: by definition.
-use Rattle.std.proofs.Common.{refl, rules}
+use Rattle.std.proofs.Common.{refl}
 use Rattle.sha256.specs.Message.{zeros}
-use Rattle.std.proofs.Common.{arith, rules}
 use Rattle.sha256.proofs.zero_count.Goals as goal
 
 pub returns : goal.returns

@@ -1,0 +1,24 @@
+-- `has_own_keyid` meets its contract: the digest is that of the text from the value's place to its end.
+use mathlib.Core.Path.{ap, ◌∙◌}
+use lib.ListN.{drop}
+use Rattle.base.specs.Bytes.{same}
+use Rattle.canonical_json.specs.Read.{raw}
+use native.Mathlib.Omega.{arith}
+use Rattle.lookup.proofs.StandsLaws.{place_after}
+use Rattle.root_file.proofs.OwnLaws.{endless, by-digest}
+use Rattle.root_file.proofs.has_own_keyid.Goals as goal
+
+pub slice_bounds-hex_digest-start : goal.slice_bounds-hex_digest-start
+slice_bounds-hex_digest-start c = let a = place_after _ _ _ c.requires _ c.in-At.is in omega arith
+
+pub slice_bounds-hex_digest-end : goal.slice_bounds-hex_digest-end
+slice_bounds-hex_digest-end c = let a = place_after _ _ _ c.requires _ c.in-At.is in omega arith
+
+pub returns-in-Nothing : goal.returns-in-Nothing
+returns-in-Nothing c = λ w. let a = c.args in endless a.s.now a.name a.value _ (rw c.in-Nothing.is at w)
+
+pub slice_bounds-hex_digest-count : goal.slice_bounds-hex_digest-count
+slice_bounds-hex_digest-count c = let a = place_after _ _ _ c.requires _ c.in-At.is in omega arith
+
+pub returns-in-At : goal.returns-in-At
+returns-in-At c = λ w. let a = c.args in by-digest a.s.now a.name a.value _ _ (c.text_is.ensures ∙ ap (same (raw (drop a.name a.s.now))) c.hex_digest-keyid.ensures) (rw c.in-At.is at w)

@@ -1,0 +1,13 @@
+-- `naming_field` meets its contract.
+use Rattle.lookup.proofs.StandsLaws.{end_of-none, end_of-found}
+use Rattle.forms.proofs.StepLaws.{must-none, must-at}
+use Rattle.envelope.proofs.OpenLaws.{cut}
+use Rattle.root_file.specs.View.{view_naming_at}
+use Rattle.root_file.proofs.naming_field.Goals as goal
+
+pub returns-in-Nothing : goal.returns-in-Nothing
+unfolding view_naming_at
+returns-in-Nothing c = (λ p k w. must-none _ p k w _ _ c.in-Nothing.is (cut _ _ c.no_naming.ensures.0), end_of-none _ _ _ c.in-Nothing.is)
+
+pub returns-in-At : goal.returns-in-At
+returns-in-At c = (λ p k w. must-at _ p k w _ _ _ c.in-At.is c.naming_at.ensures.0, end_of-found _ _ _ _ c.in-At.is c.naming_at.ensures.1)

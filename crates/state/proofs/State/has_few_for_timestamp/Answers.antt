@@ -1,0 +1,18 @@
+-- `State::has_few_for_timestamp`: too few different keys of the held root, for the timestamp role.
+use borrow.Author.Tests.{not-true, not-false}
+use Rattle.records.specs.View.{view_root}
+use Rattle.state.specs.View.{view}
+use Rattle.state.proofs.HeldLaws.{held_test, not-held}
+use Rattle.state.proofs.State.has_few_for_timestamp.Goals as goal
+
+pub returns-then-not-self : goal.returns-then-not-self
+unfolding view
+returns-then-not-self c =
+    let s = c.args.self in
+    not-held s.held.root (view_root s.root) _ (not-true _ c.if-not-self.true)
+
+pub returns : goal.returns
+unfolding view view_root
+returns c =
+    let s = c.args.self in
+    held_test s.held.root (view_root s.root) _ _ (not-false _ c.if-not-self.false) c.too_few.ensures

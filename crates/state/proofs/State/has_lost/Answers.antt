@@ -1,0 +1,18 @@
+-- `State::has_lost`: a name of the held snapshot vanished or its version went back.
+use borrow.Author.Tests.{not-true, not-false}
+use Rattle.records.specs.View.{view_snapshot}
+use Rattle.state.specs.View.{view}
+use Rattle.state.proofs.HeldLaws.{held_test, not-held}
+use Rattle.state.proofs.State.has_lost.Goals as goal
+
+pub returns-then-not-self : goal.returns-then-not-self
+unfolding view
+returns-then-not-self c =
+    let s = c.args.self in
+    not-held s.held.snapshot (view_snapshot s.snapshot) _ (not-true _ c.if-not-self.true)
+
+pub returns : goal.returns
+unfolding view view_snapshot
+returns c =
+    let s = c.args.self in
+    held_test s.held.snapshot (view_snapshot s.snapshot) _ _ (not-false _ c.if-not-self.false) c.lost.ensures

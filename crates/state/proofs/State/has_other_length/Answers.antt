@@ -1,0 +1,18 @@
+-- `State::has_other_length`: the length that the held timestamp lists is another.
+use borrow.Author.Tests.{not-true, not-false}
+use Rattle.records.specs.View.{view_timestamp}
+use Rattle.state.specs.View.{view}
+use Rattle.state.proofs.HeldLaws.{held_test, not-held}
+use Rattle.state.proofs.State.has_other_length.Goals as goal
+
+pub returns-then-not-self : goal.returns-then-not-self
+unfolding view
+returns-then-not-self c =
+    let s = c.args.self in
+    not-held s.held.timestamp (view_timestamp s.timestamp) _ (not-true _ c.if-not-self.true)
+
+pub returns : goal.returns
+unfolding view view_timestamp
+returns c =
+    let s = c.args.self in
+    held_test s.held.timestamp (view_timestamp s.timestamp) _ _ (not-false _ c.if-not-self.false) c.other_length.ensures
