@@ -1,8 +1,6 @@
 -- `gronwythal_entry` meets its contract: that of the call.
-use borrow.Author.Rules.{rules}
 use Rattle.capi.specs.View.{view_entry_read}
 use Rattle.capi.proofs.NumberedLaws.{entry-number}
-use Rattle.std.proofs.Common.{arith, rules}
 use Rattle.capi.proofs.gronwythal_entry.Goals as goal
 
 pub returns : goal.returns

@@ -1,9 +1,7 @@
 -- `gronwythal_find` meets its contract: that of the call.
-use borrow.Author.Rules.{rules}
 use mathlib.Core.Path.{◌∙◌}
 use Rattle.tuf.specs.View as tuf
 use Rattle.capi.specs.View.{view_image}
-use Rattle.std.proofs.Common.{arith, rules}
 use Rattle.capi.proofs.gronwythal_find.Goals as goal
 
 pub returns : goal.returns

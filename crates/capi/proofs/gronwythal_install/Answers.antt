@@ -1,9 +1,7 @@
 -- `gronwythal_install` meets its contract: that of the call.
-use borrow.Author.Rules.{rules}
 use mir.Facts.{to_z-of_z}
 use mir.Syntax.{w64}
 use Rattle.capi.proofs.NumberedLaws.{begins}
-use Rattle.std.proofs.Common.{arith, rules}
 use Rattle.capi.proofs.gronwythal_install.Goals as goal
 
 pub returns : goal.returns

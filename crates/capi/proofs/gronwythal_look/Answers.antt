@@ -1,8 +1,6 @@
 -- `gronwythal_look` meets its contract: that of the call.
-use borrow.Author.Rules.{rules}
 use Rattle.capi.specs.View.{view_look}
 use Rattle.capi.proofs.NumberedLaws.{look-number}
-use Rattle.std.proofs.Common.{arith, rules}
 use Rattle.capi.proofs.gronwythal_look.Goals as goal
 
 pub returns : goal.returns

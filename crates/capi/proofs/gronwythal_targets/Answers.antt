@@ -1,8 +1,6 @@
 -- `gronwythal_targets` meets its contract: that of the call.
-use borrow.Author.Rules.{rules}
 use Rattle.tuf.specs.Promises.{Steps}
 use Rattle.capi.proofs.NumberedLaws.{by_number}
-use Rattle.std.proofs.Common.{arith, rules}
 use Rattle.capi.proofs.gronwythal_targets.Goals as goal
 
 pub returns : goal.returns

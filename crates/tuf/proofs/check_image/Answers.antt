@@ -2,11 +2,9 @@
 -- tried every way.
 use mathlib.Core.Path.{ap}
 use mathlib.Core.Bool.{not}
-use borrow.Author.Rules.{rules}
 use borrow.Author.Tests.{eq-eqb, ne_eqb}
 use Rattle.rules.specs.Asked.{image_table, image_answer}
 use Rattle.judge.proofs.TableLaws.{table}
-use Rattle.std.proofs.Common.{arith, rules}
 use Rattle.tuf.proofs.check_image.Goals as goal
 
 pub returns-then-is_bad_digest : goal.returns-then-is_bad_digest

@@ -1,7 +1,5 @@
 -- `digest` meets its contract: 32 bytes are kept whole.
-use borrow.Author.Rules.{rules}
 use Rattle.tuf.proofs.TargetsLaws.{digest-kept}
-use Rattle.std.proofs.Common.{arith, rules}
 use Rattle.tuf.proofs.digest.Goals as goal
 
 pub returns : goal.returns

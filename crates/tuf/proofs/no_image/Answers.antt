@@ -1,11 +1,9 @@
 -- `no_image` meets its contract.
 use mathlib.Core.Path.{refl}
-use borrow.Author.Rules.{rules}
 use Rattle.base.specs.Window.{byte_at, run, window}
 use Rattle.rules.specs.Asked.{nothing_found}
 use Rattle.records.specs.View.{view_id}
 use Rattle.tuf.specs.View.{view_image}
-use Rattle.std.proofs.Common.{arith, rules}
 use Rattle.tuf.proofs.no_image.Goals as goal
 
 pub returns : goal.returns

@@ -2,7 +2,6 @@
 use mathlib.Core.Path.{refl}
 use Rattle.base.specs.Window.{byte_at, run, window}
 use Rattle.records.specs.View.{view_id}
-use Rattle.std.proofs.Common.{arith, rules}
 use Rattle.tuf.proofs.no_key.Goals as goal
 
 pub returns : goal.returns

@@ -1,7 +1,6 @@
 -- `blank` meets its contract.
-use borrow.Author.Rules.{rules}
 use Rattle.tuf.specs.View.{view}
-use Rattle.std.proofs.Common.{arith, rules}
+use Rattle.std.proofs.Common.{rules}
 use Rattle.tuf.proofs.State.blank.Goals as goal
 
 pub returns : goal.returns

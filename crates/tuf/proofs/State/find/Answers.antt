@@ -1,10 +1,8 @@
 -- `find` meets its contract: refused with zeros, with the number of names compared where it is 15, or the image that the file lists.
-use borrow.Author.Rules.{rules}
 use mathlib.Core.Path.{refl}
 use Rattle.rules.specs.Steps.{answer}
 use Rattle.tuf.specs.View.{view, view_image}
 use Rattle.tuf.proofs.TargetsLaws.{targets-unread, targets-fault, targets-read, find-refused, find-judged, find_unlisted, find-other, find-found}
-use Rattle.std.proofs.Common.{arith, rules}
 use Rattle.tuf.proofs.State.find.Goals as goal
 
 pub returns-then-read-ne0 : goal.returns-then-read-ne0

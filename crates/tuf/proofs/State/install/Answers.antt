@@ -1,9 +1,7 @@
 -- `install` meets its contract: a refused one returns the blank state.
-use borrow.Author.Rules.{rules}
 use mathlib.Core.Path.{refl}
 use Rattle.root_file.specs.View.{view_root_read}
 use Rattle.tuf.proofs.StepLaws.{not-begun, begun-refused, begun-accepted}
-use Rattle.std.proofs.Common.{arith, rules}
 use Rattle.tuf.proofs.State.install.Goals as goal
 
 pub returns-then-read-ne0 : goal.returns-then-read-ne0

@@ -1,11 +1,9 @@
 -- `key` meets its contract: one law for each way out.
 use mathlib.Core.Path.{refl}
-use borrow.Author.Rules.{rules}
 use borrow.Author.Tests.{not-true, not-false}
 use Rattle.records.specs.View.{view_id}
 use Rattle.tuf.specs.View.{view}
 use Rattle.tuf.proofs.KeyLaws.{held-keys, key-not-held, key-not-hex, key-unknown, key-known}
-use Rattle.std.proofs.Common.{arith, rules}
 use Rattle.tuf.proofs.State.key.Goals as goal
 
 pub returns-then-lacks_root : goal.returns-then-lacks_root

@@ -1,12 +1,10 @@
 -- `new_cycle` meets its contract: refused, or the state with the start time.
-use borrow.Author.Rules.{rules}
 use mathlib.Core.Path.{refl, sym, ◌∙◌}
 use Rattle.rules.specs.State.{new_cycle}
 use Rattle.rules.specs.Steps.{answer, offered, started}
 use Rattle.rules.proofs.NextLaws.{next-none}
 use Rattle.tuf.specs.View.{view}
 use Rattle.tuf.proofs.StepLaws.{step-refused, step-accepted}
-use Rattle.std.proofs.Common.{arith, rules}
 use Rattle.tuf.proofs.State.new_cycle.Goals as goal
 
 pub returns-then-answer-ne0 : goal.returns-then-answer-ne0

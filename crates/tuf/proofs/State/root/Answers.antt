@@ -1,12 +1,10 @@
 -- `root` meets its contract: the ways out of a step that reads a file.
-use borrow.Author.Rules.{rules}
 use mathlib.Core.Path.{refl, ◌∙◌}
 use Rattle.rules.specs.Steps.{answer, a_root, offered, started}
 use Rattle.envelope.proofs.ReadLaws.{read-says, read-judged}
 use Rattle.root_file.specs.View.{view_root_read}
 use Rattle.tuf.specs.View.{view}
 use Rattle.tuf.proofs.StepLaws.{unread, held_back, let_in, root-after}
-use Rattle.std.proofs.Common.{arith, rules}
 use Rattle.tuf.proofs.State.root.Goals as goal
 
 pub returns-then-read-ne0 : goal.returns-then-read-ne0

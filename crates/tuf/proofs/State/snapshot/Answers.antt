@@ -1,12 +1,10 @@
 -- `snapshot` meets its contract: the ways out of a step that reads a file.
-use borrow.Author.Rules.{rules}
 use mathlib.Core.Path.{refl, sym}
 use Rattle.rules.specs.Steps.{answer, a_snapshot, trusting, offered, started}
 use Rattle.envelope.proofs.ReadLaws.{read-says, read-judged}
 use Rattle.snapshot_file.specs.View.{view_snapshot_read}
 use Rattle.tuf.specs.View.{view}
 use Rattle.tuf.proofs.StepLaws.{unread, held_back, let_in}
-use Rattle.std.proofs.Common.{arith, rules}
 use Rattle.tuf.proofs.State.snapshot.Goals as goal
 
 pub returns-then-read-ne0 : goal.returns-then-read-ne0

@@ -1,5 +1,4 @@
 -- `targets` meets its contract: the ways out of a step that reads a file.
-use borrow.Author.Rules.{rules}
 use mathlib.Core.Path.{refl, sym, ◌∙◌}
 use Rattle.rules.specs.State.{keep_targets}
 use Rattle.rules.specs.Steps.{answer, a_targets, offered, started}
@@ -7,7 +6,6 @@ use Rattle.records.specs.View.{view_targets}
 use Rattle.tuf.specs.View.{view}
 use Rattle.tuf.proofs.StepLaws.{unread, held_back, let_in}
 use Rattle.tuf.proofs.TargetsLaws.{targets-unread, targets-read, targets-after}
-use Rattle.std.proofs.Common.{arith, rules}
 use Rattle.tuf.proofs.State.targets.Goals as goal
 
 pub returns-then-read-ne0 : goal.returns-then-read-ne0

@@ -1,7 +1,6 @@
 -- `versions` meets its contract.
-use borrow.Author.Rules.{rules}
 use Rattle.tuf.specs.View.{view}
-use Rattle.std.proofs.Common.{arith, rules}
+use Rattle.std.proofs.Common.{rules}
 use Rattle.tuf.proofs.State.versions.Goals as goal
 
 pub returns : goal.returns
