@@ -3,6 +3,8 @@ use crate::lines;
 use answers::Answer;
 use arguments::{Arguments, Problem};
 use date::Date;
+use std::io;
+use std::rt::Files;
 use tuf::{State, Step};
 
 #[derive(Clone, Copy)]
@@ -82,20 +84,20 @@ fn call_named(name: &[u8]) -> Call {
 }
 
 // The arguments of each call by their kinds: b for bytes, n for a number, t for a time.
-fn arguments_of(call: Call, line: &[u8], bytes: &mut [u8]) -> Arguments {
+fn arguments_of(rt: &impl Files, call: Call, line: &[u8], bytes: &mut [u8]) -> Arguments {
     match call {
         Call::Unknown => arguments::none(Problem::Call),
-        Call::State => arguments::read(b"", line, bytes),
-        Call::Cycle => arguments::read(b"t", line, bytes),
-        Call::Entry => arguments::read(b"bn", line, bytes),
-        Call::Install => arguments::read(b"bbt", line, bytes),
-        Call::Image => arguments::read(b"nbnb", line, bytes),
-        Call::Root => arguments::read(b"bbb", line, bytes),
+        Call::State => arguments::read(rt, b"", line, bytes),
+        Call::Cycle => arguments::read(rt, b"t", line, bytes),
+        Call::Entry => arguments::read(rt, b"bn", line, bytes),
+        Call::Install => arguments::read(rt, b"bbt", line, bytes),
+        Call::Image => arguments::read(rt, b"nbnb", line, bytes),
+        Call::Root => arguments::read(rt, b"bbb", line, bytes),
         Call::Text | Call::Date | Call::Sha256 | Call::Look | Call::Key => {
-            arguments::read(b"b", line, bytes)
+            arguments::read(rt, b"b", line, bytes)
         }
         Call::Timestamp | Call::Snapshot | Call::Targets | Call::Find => {
-            arguments::read(b"bb", line, bytes)
+            arguments::read(rt, b"bb", line, bytes)
         }
     }
 }
@@ -113,20 +115,20 @@ fn text_answer(text: &[u8]) -> Answer {
     Answer::NotText
 }
 
-fn play_date(text: &[u8]) {
+fn play_date(rt: &impl Print, text: &[u8]) -> io::Result<()> {
     match date::parse(text) {
-        Date::At(t) => lines::date(t),
-        Date::Bad => lines::no_date(),
+        Date::At(t) => lines::date(rt, t),
+        Date::Bad => lines::no_date(rt),
     }
 }
 
-fn play_entry(a: Arguments, bytes: &[u8]) {
+fn play_entry(rt: &impl Print, a: Arguments, bytes: &[u8]) -> io::Result<()> {
     let place = a.all[1];
     let read = tuf::entry(arguments::part(bytes, a, 0), place.number as usize);
-    lines::entry(read);
+    lines::entry(rt, read)
 }
 
-fn play_image(a: Arguments, bytes: &[u8]) {
+fn play_image(rt: &impl Print, a: Arguments, bytes: &[u8]) -> io::Result<()> {
     let found = a.all[0];
     let fetched = a.all[2];
     let answer = tuf::check_image(
@@ -135,29 +137,29 @@ fn play_image(a: Arguments, bytes: &[u8]) {
         fetched.number,
         arguments::part(bytes, a, 3),
     );
-    lines::number(b"image", answer);
+    lines::number(rt, b"image", answer)
 }
 
 // ---- Calls that ask the state
 
-fn play_find(state: State, a: Arguments, bytes: &[u8]) {
+fn play_find(rt: &impl Print, state: State, a: Arguments, bytes: &[u8]) -> io::Result<()> {
     let found = state.find(arguments::part(bytes, a, 0), arguments::part(bytes, a, 1));
-    lines::image(found);
+    lines::image(rt, found)
 }
 
-fn ask(call: Call, state: State, a: Arguments, bytes: &[u8]) {
+fn ask(rt: &impl Print, call: Call, state: State, a: Arguments, bytes: &[u8]) -> io::Result<()> {
     let first = arguments::part(bytes, a, 0);
     match call {
-        Call::Text => lines::number(b"text", text_answer(first)),
-        Call::Date => play_date(first),
-        Call::Sha256 => lines::digest(tuf::digest(first)),
-        Call::Look => lines::looked(tuf::look(first)),
-        Call::Entry => play_entry(a, bytes),
-        Call::Key => lines::key(state.key(first)),
-        Call::Find => play_find(state, a, bytes),
-        Call::Image => play_image(a, bytes),
+        Call::Text => lines::number(rt, b"text", text_answer(first)),
+        Call::Date => play_date(rt, first),
+        Call::Sha256 => lines::digest(rt, tuf::digest(first)),
+        Call::Look => lines::looked(rt, tuf::look(first)),
+        Call::Entry => play_entry(rt, a, bytes),
+        Call::Key => lines::key(rt, state.key(first)),
+        Call::Find => play_find(rt, state, a, bytes),
+        Call::Image => play_image(rt, a, bytes),
         // `state`: the others do not come here
-        _ => lines::versions(state.versions()),
+        _ => lines::versions(rt, state.versions()),
     }
 }
 
@@ -177,25 +179,31 @@ fn cycle(state: State, a: Arguments) -> Step {
     state.new_cycle(first.time)
 }
 
-fn told(name: &[u8], step: Step) -> State {
-    lines::step(name, step);
-    step.state
+fn told(rt: &impl Print, name: &[u8], step: Step) -> io::Result<State> {
+    lines::step(rt, name, step)?;
+    Ok(step.state)
 }
 
-fn perform(call: Call, state: State, a: Arguments, bytes: &[u8]) -> State {
+fn perform(
+    rt: &impl Print,
+    call: Call,
+    state: State,
+    a: Arguments,
+    bytes: &[u8],
+) -> io::Result<State> {
     let first = arguments::part(bytes, a, 0);
     let second = arguments::part(bytes, a, 1);
     let third = arguments::part(bytes, a, 2);
     match call {
-        Call::Install => told(b"install", install(a, bytes)),
-        Call::Cycle => told(b"cycle", cycle(state, a)),
-        Call::Root => told(b"root", state.root(first, second, third)),
-        Call::Timestamp => told(b"timestamp", state.timestamp(first, second)),
-        Call::Snapshot => told(b"snapshot", state.snapshot(first, second)),
-        Call::Targets => told(b"targets", state.targets(first, second)),
+        Call::Install => told(rt, b"install", install(a, bytes)),
+        Call::Cycle => told(rt, b"cycle", cycle(state, a)),
+        Call::Root => told(rt, b"root", state.root(first, second, third)),
+        Call::Timestamp => told(rt, b"timestamp", state.timestamp(first, second)),
+        Call::Snapshot => told(rt, b"snapshot", state.snapshot(first, second)),
+        Call::Targets => told(rt, b"targets", state.targets(first, second)),
         _ => {
-            ask(call, state, a, bytes);
-            state
+            ask(rt, call, state, a, bytes)?;
+            Ok(state)
         }
     }
 }
@@ -203,19 +211,25 @@ fn perform(call: Call, state: State, a: Arguments, bytes: &[u8]) -> State {
 // ---- A line
 
 // Plays a line; the state after it. A line that is empty or begins with `#` is passed over.
-pub fn play(state: State, line: &[u8], number: u64, bytes: &mut [u8]) -> State {
+pub fn play(
+    rt: &(impl Files + Print),
+    state: State,
+    line: &[u8],
+    number: u64,
+    bytes: &mut [u8],
+) -> io::Result<State> {
     if line.len() == 0 {
-        return state;
+        return Ok(state);
     }
     if line[0] == b'#' {
-        return state;
+        return Ok(state);
     }
     let call = call_named(script::word(line, 0));
-    let a = arguments_of(call, line, bytes);
+    let a = arguments_of(rt, call, line, bytes);
     let problem = a.problem;
     if arguments::is_wrong(problem) {
-        lines::problem(number, problem);
-        return state;
+        lines::problem(rt, number, problem)?;
+        return Ok(state);
     }
-    perform(call, state, a, bytes)
+    perform(rt, call, state, a, bytes)
 }

@@ -1,51 +1,51 @@
-// The lines that are written: one for each call, or what is wrong with its line.
+// The lines that are written: one for each call, or what is wrong with its line. An `Err` says that a line could not be written, or not whole.
 use answers::Answer;
 use arguments::Problem;
 use date::Time;
 use inspect::{EntryRead, Looked};
-use libc::STDOUT_FILENO;
 use records::Id;
 use state::{Version, Versions};
+use std::io;
 use tuf::{Image, PublicKey, Step};
 
 // Room for a line; none is as long.
 const LINE: usize = 512;
 
-fn put(text: &[u8]) {
-    io::write_all(STDOUT_FILENO, text);
+fn put(rt: &impl Print, text: &[u8]) -> io::Result<()> {
+    rt.write_all(text)
 }
 
 // Writes the first `at` bytes of a line.
-fn put_line(line: &mut [u8], at: usize) {
+fn put_line(rt: &impl Print, line: &mut [u8], at: usize) -> io::Result<()> {
     let end = script::append(line, at, b"\n");
-    put(&line[..end]);
+    put(rt, &line[..end])
 }
 
 // ---- Errors
 
-fn put_error(number: u64, reason: &[u8]) {
+fn put_error(rt: &impl Print, number: u64, reason: &[u8]) -> io::Result<()> {
     let mut space = [0u8; LINE];
     let line: &mut [u8] = &mut space;
     let a = script::append(line, 0, b"error ");
     let b = script::append_number(line, a, number);
     let c = script::append(line, b, b" ");
     let d = script::append(line, c, reason);
-    put_line(line, d);
+    put_line(rt, line, d)
 }
 
-pub fn too_long(number: u64) {
-    put_error(number, b"line too long");
+pub fn too_long(rt: &impl Print, number: u64) -> io::Result<()> {
+    put_error(rt, number, b"line too long")
 }
 
-pub fn problem(number: u64, problem: Problem) {
+pub fn problem(rt: &impl Print, number: u64, problem: Problem) -> io::Result<()> {
     match problem {
-        Problem::None => {}
-        Problem::Call => put_error(number, b"unknown call"),
-        Problem::Words => put_error(number, b"wrong number of words"),
-        Problem::Bytes => put_error(number, b"bad bytes"),
-        Problem::Unopened => put_error(number, b"cannot open the file"),
-        Problem::TooMany => put_error(number, b"too many bytes"),
-        Problem::Number => put_error(number, b"bad number"),
+        Problem::None => Ok(()),
+        Problem::Call => put_error(rt, number, b"unknown call"),
+        Problem::Words => put_error(rt, number, b"wrong number of words"),
+        Problem::Bytes => put_error(rt, number, b"bad bytes"),
+        Problem::Unopened => put_error(rt, number, b"cannot open the file"),
+        Problem::TooMany => put_error(rt, number, b"too many bytes"),
+        Problem::Number => put_error(rt, number, b"bad number"),
     }
 }
 
@@ -88,35 +88,35 @@ fn append_state(line: &mut [u8], at: usize, v: Versions) -> usize {
 // ---- Answers
 
 // The name of a call and its number.
-pub fn number(name: &[u8], answer: Answer) {
+pub fn number(rt: &impl Print, name: &[u8], answer: Answer) -> io::Result<()> {
     let mut space = [0u8; LINE];
     let line: &mut [u8] = &mut space;
     let a = script::append(line, 0, name);
     let b = append_answer(line, a, answer);
-    put_line(line, b);
+    put_line(rt, line, b)
 }
 
-pub fn no_date() {
-    put(b"date bad\n");
+pub fn no_date(rt: &impl Print) -> io::Result<()> {
+    put(rt, b"date bad\n")
 }
 
-pub fn date(time: Time) {
+pub fn date(rt: &impl Print, time: Time) -> io::Result<()> {
     let mut space = [0u8; LINE];
     let line: &mut [u8] = &mut space;
     let a = script::append(line, 0, b"date ");
     let b = script::append_count(line, a, time.seconds);
-    put_line(line, b);
+    put_line(rt, line, b)
 }
 
-pub fn digest(id: Id) {
+pub fn digest(rt: &impl Print, id: Id) -> io::Result<()> {
     let mut space = [0u8; LINE];
     let line: &mut [u8] = &mut space;
     let a = script::append(line, 0, b"sha256");
     let b = append_bytes(line, a, &id.bytes);
-    put_line(line, b);
+    put_line(rt, line, b)
 }
 
-pub fn looked(r: Looked) {
+pub fn looked(rt: &impl Print, r: Looked) -> io::Result<()> {
     let mut space = [0u8; LINE];
     let line: &mut [u8] = &mut space;
     let answer = r.answer;
@@ -125,10 +125,10 @@ pub fn looked(r: Looked) {
     let c = append_count(line, b, r.start);
     let d = append_count(line, c, r.length);
     let e = append_count(line, d, r.entries);
-    put_line(line, e);
+    put_line(rt, line, e)
 }
 
-pub fn entry(r: EntryRead) {
+pub fn entry(rt: &impl Print, r: EntryRead) -> io::Result<()> {
     let mut space = [0u8; LINE];
     let line: &mut [u8] = &mut space;
     let answer = r.answer;
@@ -137,10 +137,10 @@ pub fn entry(r: EntryRead) {
     let b = append_answer(line, a, answer);
     let c = append_bytes(line, b, &keyid.bytes);
     let d = append_bytes(line, c, &r.sig);
-    put_line(line, d);
+    put_line(rt, line, d)
 }
 
-pub fn key(r: PublicKey) {
+pub fn key(rt: &impl Print, r: PublicKey) -> io::Result<()> {
     let mut space = [0u8; LINE];
     let line: &mut [u8] = &mut space;
     let answer = r.answer;
@@ -148,10 +148,10 @@ pub fn key(r: PublicKey) {
     let a = script::append(line, 0, b"key");
     let b = append_answer(line, a, answer);
     let c = append_bytes(line, b, &public.bytes);
-    put_line(line, c);
+    put_line(rt, line, c)
 }
 
-pub fn image(r: Image) {
+pub fn image(rt: &impl Print, r: Image) -> io::Result<()> {
     let mut space = [0u8; LINE];
     let line: &mut [u8] = &mut space;
     let answer = r.answer;
@@ -162,10 +162,10 @@ pub fn image(r: Image) {
     let d = script::append_number(line, c, r.length);
     let e = append_bytes(line, d, &digest.bytes);
     let f = append_count(line, e, r.compared);
-    put_line(line, f);
+    put_line(rt, line, f)
 }
 
-pub fn step(name: &[u8], r: Step) {
+pub fn step(rt: &impl Print, name: &[u8], r: Step) -> io::Result<()> {
     let mut space = [0u8; LINE];
     let line: &mut [u8] = &mut space;
     let answer = r.answer;
@@ -173,13 +173,13 @@ pub fn step(name: &[u8], r: Step) {
     let a = script::append(line, 0, name);
     let b = append_answer(line, a, answer);
     let c = append_state(line, b, next.versions());
-    put_line(line, c);
+    put_line(rt, line, c)
 }
 
 // A line for a record, where it is held.
-fn held(role: &[u8], version: Version) {
+fn held(rt: &impl Print, role: &[u8], version: Version) -> io::Result<()> {
     if !version.held {
-        return;
+        return Ok(());
     }
     let mut space = [0u8; LINE];
     let line: &mut [u8] = &mut space;
@@ -187,17 +187,17 @@ fn held(role: &[u8], version: Version) {
     let b = script::append(line, a, role);
     let c = script::append(line, b, b", version ");
     let d = script::append_number(line, c, version.number);
-    put_line(line, d);
+    put_line(rt, line, d)
 }
 
-pub fn versions(v: Versions) {
-    held(b"root", v.root);
-    held(b"timestamp", v.timestamp);
-    held(b"snapshot", v.snapshot);
-    held(b"targets", v.targets);
+pub fn versions(rt: &impl Print, v: Versions) -> io::Result<()> {
+    held(rt, b"root", v.root)?;
+    held(rt, b"timestamp", v.timestamp)?;
+    held(rt, b"snapshot", v.snapshot)?;
+    held(rt, b"targets", v.targets)?;
     let mut space = [0u8; LINE];
     let line: &mut [u8] = &mut space;
     let a = script::append(line, 0, b"state");
     let b = append_state(line, a, v);
-    put_line(line, b);
+    put_line(rt, line, b)
 }

@@ -4,9 +4,11 @@
 mod calls;
 mod lines;
 
-ghost use Rattle.std.specs.Prelude.{◌≡◌, ◌+◌, ◌≤◌, length};
+ghost use Rattle.std.specs.Prelude.{◌≡◌, ◌+◌, ◌≤◌, length, take, IfOk};
 
-use libc::STDIN_FILENO;
+use std::io;
+use std::io::Read;
+use std::rt::Files;
 use tuf::State;
 
 // Room for a line and its end.
@@ -58,18 +60,25 @@ fn after(line: u64) -> u64 {
 }
 
 // The end of a line that was too long is not played: it was reported at its beginning.
-fn play_unless(over: bool, state: State, line: &[u8], number: u64, bytes: &mut [u8]) -> State {
+fn play_unless(
+    rt: &(impl Files + Print),
+    over: bool,
+    state: State,
+    line: &[u8],
+    number: u64,
+    bytes: &mut [u8],
+) -> io::Result<State> {
     if over {
-        return state;
+        return Ok(state);
     }
-    calls::play(state, line, number, bytes)
+    calls::play(rt, state, line, number, bytes)
 }
 
-fn report_unless(over: bool, number: u64) {
+fn report_unless(rt: &impl Print, over: bool, number: u64) -> io::Result<()> {
     if over {
-        return;
+        return Ok(());
     }
-    lines::too_long(number);
+    lines::too_long(rt, number)
 }
 
 // The first place from `from` up to `to` that holds b, or `to`.
@@ -101,95 +110,113 @@ fn shift(buf: &mut [u8], from: usize, to: usize) -> usize
     n
 }
 
-// Reads once, behind the first `to` bytes; how many came.
-fn fill(buf: &mut [u8], to: usize) -> usize
+// Reads once, behind the first `to` bytes; how many came. These stay, also where the reading fails.
+fn fill(script: &mut impl Read, buf: &mut [u8], to: usize) -> io::Result<usize>
     requires { to ≤ length buf.old }
-    ensures { to + result ≤ length buf.old }
+    ensures within { IfOk result (λ n. to + n ≤ length buf.old) }
+    ensures kept { take to buf.new ≡ take to buf.old }
 {
-    let part = &mut buf[to..];
-    let got = libc::read(STDIN_FILENO, part);
-    io::count(got, part)
+    script.read(&mut buf[to..])
 }
 
 // What is in the buffer has no line end: reads more of the line, or plays what there is at the script's end.
-fn read_on(buf: &mut [u8], p: Progress, bytes: &mut [u8]) -> Progress {
+fn read_on(
+    rt: &(impl Files + Print),
+    script: &mut impl Read,
+    buf: &mut [u8],
+    p: Progress,
+    bytes: &mut [u8],
+) -> io::Result<Progress> {
     let from = p.from;
     let to = p.to;
     let state = p.state;
     if to < from {
-        return finished(state);
+        return Ok(finished(state));
     }
     if buf.len() < to {
-        return finished(state);
+        return Ok(finished(state));
     }
     let n = shift(buf, from, to);
-    let got = fill(buf, n);
+    let got = fill(script, buf, n)?;
     if 0 < got {
-        return Progress {
+        return Ok(Progress {
             from: 0,
             to: n + got,
             line: p.line,
             over: p.over,
             done: false,
             state,
-        };
+        });
     }
-    finished(play_unless(p.over, state, &buf[..n], p.line, bytes))
+    let last = play_unless(rt, p.over, state, &buf[..n], p.line, bytes)?;
+    Ok(finished(last))
 }
 
 // One line, or one reading.
-fn turn(buf: &mut [u8], p: Progress, bytes: &mut [u8]) -> Progress {
+fn turn(
+    rt: &(impl Files + Print),
+    script: &mut impl Read,
+    buf: &mut [u8],
+    p: Progress,
+    bytes: &mut [u8],
+) -> io::Result<Progress> {
     let from = p.from;
     let to = p.to;
     let state = p.state;
     if to < from {
-        return finished(state);
+        return Ok(finished(state));
     }
     if buf.len() < to {
-        return finished(state);
+        return Ok(finished(state));
     }
     let e = place_of(buf, from, to, b'\n');
     if e < to {
         let behind = e + 1;
-        let next = play_unless(p.over, state, &buf[from..e], p.line, bytes);
-        return Progress {
+        let next = play_unless(rt, p.over, state, &buf[from..e], p.line, bytes)?;
+        return Ok(Progress {
             from: behind,
             to,
             line: after(p.line),
             over: false,
             done: false,
             state: next,
-        };
+        });
     }
     if buf.len() <= to - from {
-        report_unless(p.over, p.line);
-        return Progress {
+        report_unless(rt, p.over, p.line)?;
+        return Ok(Progress {
             from: 0,
             to: 0,
             line: p.line,
             over: true,
             done: false,
             state,
-        };
+        });
     }
-    read_on(buf, p, bytes)
+    read_on(rt, script, buf, p, bytes)
 }
 
 // A proved loop has to end, and nothing says that a script does: it counts down from a number that no run uses up.
-fn run(buf: &mut [u8], bytes: &mut [u8]) {
+fn run(
+    rt: &(impl Files + Print),
+    script: &mut impl Read,
+    buf: &mut [u8],
+    bytes: &mut [u8],
+) -> io::Result<()> {
     let mut p = at_the_start(State::blank());
     let mut turns = u64::MAX;
     while 0 < turns {
-        p = turn(buf, p, bytes);
+        p = turn(rt, script, buf, p, bytes)?;
         if p.done {
-            return;
+            return Ok(());
         }
         turns -= 1;
     }
+    Ok(())
 }
 
-fn main() {
-    let mut buf = [0u8; LINE];
-    let mut bytes = [0u8; BYTES];
-    run(&mut buf, &mut bytes);
+fn main(rt: HostRuntime) -> io::Result<()> {
+    let mut buf = vec![in rt.alloc(); 0u8; LINE]?;
+    let mut bytes = vec![in rt.alloc(); 0u8; BYTES]?;
+    run(&rt, &mut rt.stdin(), &mut buf, &mut bytes)
 }
