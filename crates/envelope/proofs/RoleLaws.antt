@@ -126,7 +126,7 @@ module _ {A : Type 0} (type : Bytes) (body : Json → Option A) (keyids : Json �
           says-file : h.known ≡ true → (spec : Bytes) × (read_as type body keyids bytes ≡ says (file spec h.version h.expires b) (view_entries o.entries))
           says-file k = let f = has-file true r in (f.2.0, f.2.2 ∙ spoken-known f.0 f.2.0 h.version h.expires b (f.2.1 ∙ k) _ f.1.keyids)
 
--- ## The ways out of a function that reads a role's file, of which `keepIt` is kept
+-- ## The ways out of a function that reads a role's file, of which `keep_it` is kept
 
 module _ {A B : Type 0} (type : Bytes) (body : Json → Option A) (keyids : Json → Bool) (keep_it : File A → B) (bytes : Bytes) (o : Opened) (w : Opens bytes o (read_envelope bytes)) (n : ℕ) (b : B) (es : List Bytes) where
   said-refused : (f : Fault) → read_as type body keyids bytes ≡ refused f → n ≡ fault_number f

@@ -216,7 +216,7 @@ fn run(
 }
 
 fn main(rt: HostRuntime) -> io::Result<()> {
-    let mut buf = vec![in rt.alloc(); 0u8; LINE]?;
-    let mut bytes = vec![in rt.alloc(); 0u8; BYTES]?;
+    let mut buf = [0u8; LINE];
+    let mut bytes = [0u8; BYTES];
     run(&rt, &mut rt.stdin(), &mut buf, &mut bytes)
 }

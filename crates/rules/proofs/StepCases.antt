@@ -148,7 +148,7 @@ answers =
     ∷ to_root (holding (pos 2000)) 1 1 5 gives 0
     ∷ to_root (holding (pos 2000)) 1 1 4 gives 11
     ∷ to_root (holding (pos 2000)) 1 1 6 gives 11
-    -- "Held 2,147,483,647: no next root exists", at A7's limit; what is above it is not read (VersionCases, `noNextRoot` of Demand2)
+    -- "Held 2,147,483,647: no next root exists", at A7's limit; what is above it is not read (VersionCases, `no_next_root` of Demand2)
     ∷ to_root (holding_version 9007199254740990) 1 1 9007199254740991 gives 0
     ∷ to_root (holding_version 9007199254740991) 1 1 9007199254740991 gives 11
     ∷ to_root (holding_version 9007199254740991) 1 1 9007199254740990 gives 11

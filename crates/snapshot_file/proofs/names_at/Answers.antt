@@ -52,14 +52,13 @@ loop-m-preserved c =
     let s = c.args.s.now in
     let l = c.loop-m in
     let q = c.in-At.is in
-    let fits = c.if-n-ge-MAX_NAMES.false in
     let n = c.next_member_by-m.ensures.means c.named_at-read.ensures.1 in (
-      omega (arith, fits),
+      omega arith,
       simp length-set (omega arith),
       walks_next s _ l.m l.invariant.2 _ _ q _ n,
       seeks_next s _ _ l.m l.targets l.invariant.3 _ _ q _ n _ c.noted-targets.ensures,
       λ v h.
-          rw (front-more view_named no_named l.all l.n _ (omega (arith, fits)))
+          rw (front-more view_named no_named l.all l.n _ (omega arith))
           (members-next named 1 max_names s l.m l.n (front view_named no_named l.all l.n) _ (l.invariant.4 v h) _ _ q _ (λ u k. sym (held _ _ (not-false _ c.if-not-read.false)) ∙ c.named_at-read.ensures.0 u k) _ n),
     )
 
