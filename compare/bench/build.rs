@@ -14,7 +14,7 @@ fn main() {
     println!("cargo::rerun-if-changed={}", archive.display());
     if !archive.exists() {
         eprintln!(
-            "bench: there is no {}: 'rt staticlib capi' builds it",
+            "bench: there is no {}: 'tools/make capi_c' builds it",
             archive.display()
         );
         exit(1);
