@@ -1,7 +1,8 @@
 -- The reading of a member, at places of the text.
 use mathlib.Core.Path.{◌≡◌, refl, sym, ap, ◌∙◌}
 use mathlib.Core.List.{[], ◌∷◌}
-use mathlib.Core.Option.{Option, some}
+use Rattle.std.specs.declared.option.Option.{Option}
+use Rattle.std.specs.declared.option.Option.TheVariants.{Some}
 use mathlib.Core.Bool.{true, false}
 use Prim.Native.Nat.{ℕ, ◌≤◌, ◌<◌, ◌+◌}
 use lib.ListN.{length, drop, get_or}
@@ -85,7 +86,7 @@ module _ (rd : Bytes → Got Json) (p : Option (Bytes)) where
 
 -- the member at i is passed, and its name is the one that the next must follow
 pub onward : (d : ℕ) (p : Option (Bytes)) (s : Bytes) (i e : ℕ) → end_of (length s) (member (read d) p (drop i s)) ≡ End e → e < length s → (get_or s e 0 ≡ 125 → ⊥) → get_or s e 0 ≡ 44
-    → end_of (length s) (elements_of (objects d) p (drop i s)) ≡ end_of (length s) (elements_of (objects d) (some (raw (drop (i + 1) s))) (drop (e + 1) s))
+    → end_of (length s) (elements_of (objects d) p (drop i s)) ≡ end_of (length s) (elements_of (objects d) (Some (raw (drop (i + 1) s))) (drop (e + 1) s))
 onward d p s i e h o f g =
     let n = name-at (read d) p s i (loops.element (objects d) s p i e h) in
-    loops.onward (objects d) s p i e h o f g ∙ ap (λ (x : Bytes). end_of (length s) (elements_of (objects d) (some x) (drop (e + 1) s))) (sym n)
+    loops.onward (objects d) s p i e h o f g ∙ ap (λ (x : Bytes). end_of (length s) (elements_of (objects d) (Some x) (drop (e + 1) s))) (sym n)

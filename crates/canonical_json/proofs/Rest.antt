@@ -1,7 +1,8 @@
 -- What a reader leaves is what it was given less some bytes at the front, at least one.
 use mathlib.Core.Path.{◌≡◌, refl, ap, ◌∙◌}
 use mathlib.Core.List.{[], ◌∷◌}
-use mathlib.Core.Option.{Option, none}
+use Rattle.std.specs.declared.option.Option.{Option}
+use Rattle.std.specs.declared.option.Option.TheVariants.{None}
 use mathlib.Core.Bool.{Bool, true, false, ◌||◌}
 use Prim.Native.Nat.{ℕ, zero, suc, ◌≤◌, ◌<◌, ◌+◌, ◌-◌}
 use native.Mathlib.Omega.{arith}
@@ -172,7 +173,7 @@ module _ (rd : Bytes → Got Json) (rd-fits : (t : Bytes) → Fits t (rd t)) whe
   array-fits t = body-fits (item rd) same inil icons 93 (λ p t. rd-fits t) tt t
 
   pub object-fits : (t : Bytes) → Fits t (object rd t)
-  object-fits t = body-fits (member rd) named mnil mcons' 125 member-fits none t
+  object-fits t = body-fits (member rd) named mnil mcons' 125 member-fits None t
 
 kind-keeps : (ra : Bytes → Got Items) (ro : Bytes → Got Members) → ((t : Bytes) → Fits t (ra t)) → ((t : Bytes) → Fits t (ro t))
     → (k : Kind) (b : ℕ) (t : Bytes) → Fits (b ∷ t) (read_kind ra ro k b t)

@@ -1,6 +1,7 @@
 -- Names as they stand in a text.
 use Rattle.std.specs.Prelude.{◌≡◌, [], ◌∷◌, cond, ℕ, ◌+◌, ◌<◌, ◌≤◌, eqb, length, drop}
-use Rattle.std.proofs.Math.Option.{Option, none, some}
+use Rattle.std.specs.declared.option.Option.{Option}
+use Rattle.std.specs.declared.option.Option.TheVariants.{None, Some}
 use Rattle.base.specs.Bytes.{Bytes}
 use Rattle.canonical_json.specs.declared.Last.{Last}
 use Rattle.canonical_json.specs.declared.Last.TheVariants.{Nothing, Name}
@@ -29,5 +30,5 @@ pub record CharRead (s : Bytes) (i : ℕ) (r : Char) : Type 0 where
 
 -- the name before, which stands in the text
 abbrev pub last_of : Bytes → Last → Option (Bytes)
-last_of s Nothing = none
-last_of s (Name p) = some (raw (drop p s))
+last_of s Nothing = None
+last_of s (Name p) = Some (raw (drop p s))

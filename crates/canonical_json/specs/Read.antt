@@ -1,6 +1,7 @@
 -- A reader of canonical text: what stands at the front of a list of bytes, and what follows it.
 use Rattle.std.specs.Prelude.{[], ◌∷◌, Bool, true, false, cond, ◌||◌, ◌≡◌, ℕ, zero, suc, ◌-◌, eqb, length}
-use Rattle.std.proofs.Math.Option.{Option, none, some}
+use Rattle.std.specs.declared.option.Option.{Option}
+use Rattle.std.specs.declared.option.Option.TheVariants.{None, Some}
 use Rattle.base.specs.Bytes.{Bytes, bytes, less, is_digit}
 use Rattle.canonical_json.specs.Lead.{lead_of, within}
 use Rattle.canonical_json.specs.Json.{Json, jnull, jtrue, jfalse, num, str, arr, obj, Items, inil, icons, Members, mnil, mcons}
@@ -119,8 +120,8 @@ Member = Bytes × Json
 
 -- the name before, if there is one, is less
 abbrev pub rises : Option (Bytes) → Bytes → Bool
-rises none n = true
-rises (some p) n = less p n
+rises None n = true
+rises (Some p) n = less p n
 
 unfoldable pub member : (Bytes → Got Json) → Option (Bytes) → Bytes → Got Member
 member rd p t =
@@ -128,13 +129,13 @@ member rd p t =
     choose (rises p n) (λ _. expect 58 v (λ w. also (λ x. (n, x)) (rd w))) (λ _. bad)))
 
 abbrev pub named : Option (Bytes) → Member → Option (Bytes)
-named p m = some m.0
+named p m = Some m.0
 
 abbrev pub mcons' : Member → Members → Members
 mcons' m ms = mcons m.0 m.1 ms
 
 abbrev pub object : (Bytes → Got Json) → Bytes → Got Members
-object rd t = body (member rd) named mnil mcons' 125 none t
+object rd t = body (member rd) named mnil mcons' 125 None t
 
 -- ## A value, by its first byte
 

@@ -1,6 +1,7 @@
 -- Entries by their keyids, and what every role's file says besides its body: parts of the forms of rules, as they are read.
 use Rattle.std.specs.Prelude.{◌≡◌, List, Bool, true, ℕ, ℤ, drop}
-use Rattle.std.proofs.Math.Option.{Option, some}
+use Rattle.std.specs.declared.option.Option.{Option}
+use Rattle.std.specs.declared.option.Option.TheVariants.{Some}
 use Rattle.base.specs.Bytes.{Bytes, bytes}
 use Rattle.base.specs.Hex.{is_hex, undo}
 use Rattle.canonical_json.specs.Json.{Json}
@@ -22,11 +23,11 @@ use Rattle.envelope.specs.declared.HeaderAt.{HeaderAt}
 
 -- the keyid of an entry
 unfoldable pub keyid_of : Json → Option Bytes
-keyid_of v = forms.entry v >>= λ e. some e.keyid
+keyid_of v = forms.entry v >>= λ e. Some e.keyid
 
 -- the keyids of the entries, in file order
 unfoldable pub keyids : Json → Option (List Bytes)
-keyids v = forms.entries v >>= λ es. some (keyids_of es)
+keyids v = forms.entries v >>= λ es. Some (keyids_of es)
 
 -- an entry by the places of its digits
 unfoldable pub view_entry : Bytes → EntryAt → Option rules.Entry
@@ -46,7 +47,7 @@ view_entries_at r = keep r.ok (view_entries r.entries)
 
 -- whether a "spec_version" is known, where it is a string
 unfoldable pub spec_known : Json → Option Bool
-spec_known v = text v >>= λ b. some (forms.known_spec b)
+spec_known v = text v >>= λ b. Some (forms.known_spec b)
 
 pub record Header : Type 0 where
   pub known : Bool
@@ -60,7 +61,7 @@ header type v =
     must (bytes "spec_version") spec_known v >>= λ known.
     forms.version v >>= λ version.
     must (bytes "expires") date v >>= λ expires.
-    some (record { known = known; version = version; expires = expires })
+    Some (record { known = known; version = version; expires = expires })
 
 unfoldable pub view_spec : Spec → Option Bool
 view_spec r = keep r.ok r.known

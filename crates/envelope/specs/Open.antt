@@ -1,6 +1,7 @@
 -- What an opened file says, and a role's file when it is read.
 use Rattle.std.specs.Prelude.{◌≡◌, List, [], cond, ℕ, eqb, length}
-use Rattle.std.proofs.Math.Option.{Option, none, some}
+use Rattle.std.specs.declared.option.Option.{Option}
+use Rattle.std.specs.declared.option.Option.TheVariants.{None, Some}
 use Rattle.base.specs.Bytes.{Bytes}
 use Rattle.canonical_json.specs.Json.{Json, put}
 use Rattle.canonical_json.specs.Fields.{members}
@@ -17,7 +18,7 @@ use Rattle.envelope.specs.declared.Opened.{Opened}
 
 -- an object
 unfoldable pub object : Json → Option (Unit {0})
-object v = members v >>= λ _. some tt
+object v = members v >>= λ _. Some tt
 
 -- r is the opened envelope e, whose signed value stands in the file at its place
 pub record IsOpen (file : Bytes) (r : Opened) (e : Envelope) : Type 0 where
@@ -41,9 +42,9 @@ Opens file r (says e ks) = IsOpen file r e
 
 unfoldable pub fault : ℕ → Option Fault
 fault n =
-    cond (eqb n 1) (some too_long)
-    (cond (eqb n 2) (some not_text) (cond (eqb n 3) (some bad_form) (cond (eqb n 4) (some other_spec) (cond (eqb n 16) (some other_keyid) none))))
+    cond (eqb n 1) (Some too_long)
+    (cond (eqb n 2) (Some not_text) (cond (eqb n 3) (Some bad_form) (cond (eqb n 4) (Some other_spec) (cond (eqb n 16) (Some other_keyid) None))))
 
 -- any other number says nothing
 unfoldable pub view_read : {A : Type 0} → ℕ → A → List Bytes → Option (Read A)
-view_read n a es = cond (eqb n 0) (some (says a es)) (fault n >>= λ f. some (refused f))
+view_read n a es = cond (eqb n 0) (Some (says a es)) (fault n >>= λ f. Some (refused f))

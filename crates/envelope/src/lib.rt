@@ -2,7 +2,6 @@
 #![tactic(auto)]
 
 ghost use Rattle.std.specs.Prelude.{◌≡◌, true, false, drop, take};
-ghost use Rattle.std.proofs.Math.Option.{none};
 ghost use Rattle.base.specs.Bytes.{bytes, same};
 ghost use Rattle.canonical_json.specs.Read.{raw};
 ghost use Rattle.canonical_json.specs.Fields.{keep};
@@ -144,7 +143,7 @@ pub fn no_ids() -> Entries
 }
 
 fn no_entries() -> EntriesAt
-    ensures { (view_entries_at result ≡ none) × (result.end ≡ Nothing) }
+    ensures { (view_entries_at result ≡ None) × (result.end ≡ Nothing) }
 {
     EntriesAt {
         ok: false,
@@ -275,7 +274,7 @@ pub struct HeaderAt {
 }
 
 fn no_header() -> HeaderAt
-    ensures { view_header result ≡ none }
+    ensures { view_header result ≡ None }
 {
     HeaderAt {
         ok: false,

@@ -1,6 +1,6 @@
 -- What a function promises that is given the place where a member was found, or that there is none: it reads that member, of whatever object
 -- and under whatever name.
-use Rattle.std.proofs.Math.Option.{Option}
+use Rattle.std.specs.declared.option.Option.{Option}
 use Rattle.std.specs.Prelude.{ℕ}
 use Rattle.base.specs.Bytes.{Bytes}
 use Rattle.canonical_json.specs.Json.{Json}

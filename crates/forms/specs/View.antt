@@ -1,6 +1,7 @@
 -- What the answers of the leaves stand for: nothing where they are not `ok`.
 use Rattle.std.specs.Prelude.{◌≡◌, Bool, true, cond, ◌&&◌, ℕ, ◌+◌, ◌*◌, eqb, length, take, drop}
-use Rattle.std.proofs.Math.Option.{Option, none, some}
+use Rattle.std.specs.declared.option.Option.{Option}
+use Rattle.std.specs.declared.option.Option.TheVariants.{None, Some}
 use Prim.Native.Char.{code}
 use Rattle.base.specs.Bytes.{Bytes}
 use Rattle.base.specs.Window.{byte_at, window}
@@ -29,8 +30,8 @@ digits_at n s i = is_hex n (take (n * 2) (drop i s)) && eqb (byte_at s (i + n * 
 
 -- digits that stand at a place, undone
 unfoldable pub undone_at : Bytes → Found → Option Bytes
-undone_at s Nothing = none
-undone_at s (At i) = some (undo (raw (drop i s)))
+undone_at s Nothing = None
+undone_at s (At i) = Some (undo (raw (drop i s)))
 
 -- a place that is handed back is that of n bytes in hex
 abbrev pub HexAt : ℕ → Bytes → Found → Type 0

@@ -3,7 +3,6 @@
 #![tactic(auto)]
 
 ghost use Rattle.std.specs.Prelude.{◌≡◌, drop};
-ghost use Rattle.std.proofs.Math.Option.{none};
 ghost use Rattle.canonical_json.specs.Read.{raw};
 ghost use Rattle.canonical_json.specs.Fields.{keep, number};
 ghost use Rattle.lookup.specs.Place.{Takes, KnownEnd};
@@ -44,7 +43,7 @@ pub struct IdAt {
 }
 
 fn no_id() -> IdAt
-    ensures { view_id_at result ≡ none }
+    ensures { view_id_at result ≡ None }
 {
     IdAt {
         ok: false,
@@ -53,7 +52,7 @@ fn no_id() -> IdAt
 }
 
 fn no_sig() -> Bytes64
-    ensures { view_sig result ≡ none }
+    ensures { view_sig result ≡ None }
 {
     Bytes64 {
         ok: false,
@@ -371,7 +370,7 @@ pub struct ListedAt {
 
 // Nothing, for a form that is broken.
 pub fn no_listed() -> ListedAt
-    ensures { (view_listed_at result ≡ none) × (result.end ≡ Nothing) }
+    ensures { (view_listed_at result ≡ None) × (result.end ≡ Nothing) }
 {
     ListedAt {
         ok: false,

@@ -1,6 +1,8 @@
 -- The element at a place of an array, found by walking to it.
 use mathlib.Core.Path.{◌≡◌, refl, ◌∙◌}
-use mathlib.Core.Option.{Option, none, some, bind}
+use Rattle.std.specs.declared.option.Option.{Option}
+use Rattle.std.specs.declared.option.Option.TheVariants.{None, Some}
+use Rattle.canonical_json.specs.Options.{bind}
 use Prim.Native.Nat.{ℕ, suc, ◌-◌}
 use native.Mathlib.Omega.{arith}
 use Rattle.base.specs.Bytes.{Bytes}
@@ -20,11 +22,11 @@ use Rattle.inspect.specs.Elements.{elements, element_at}
 
 -- o is the element at place n of those that are left at e
 abbrev pub NthLeft : Bytes → Element → ℕ → Option Json → Type 0
-NthLeft s NoArray n o = o ≡ none
-NthLeft s (End e) n o = o ≡ none
+NthLeft s NoArray n o = o ≡ None
+NthLeft s (End e) n o = o ≡ None
 NthLeft s (At i) n o = (v : Json) × (vs : Items) × ((rest : Bytes) × ItemsLeft s rest (At i) (icons v vs)) × (o ≡ nth n (elements (icons v vs)))
 
-nth-now : (v : Json) (vs : Items) (n : ℕ) → n ≡ 0 → nth n (elements (icons v vs)) ≡ some v
+nth-now : (v : Json) (vs : Items) (n : ℕ) → n ≡ 0 → nth n (elements (icons v vs)) ≡ Some v
 unfolding nth elements
 nth-now v vs n z = rw z
 
@@ -44,8 +46,8 @@ module _ (s : Bytes) where
   nth-first e w n v h = go (items v) (w.means v h)
     where
       go : (o : Option Items) → ItemsOf s h.rest e o → NthLeft s e n (o >>= λ xs. nth n (elements xs))
-      go none q = rw q refl
-      go (some xs) l = left-nth n l
+      go None q = rw q refl
+      go (Some xs) l = left-nth n l
 
   module _ (e : Element) (n : ℕ) (o : Option Json) (w : NthLeft s e n o) where
     pub nth-none : e ≡ NoArray → PlaceOf s found.Nothing o

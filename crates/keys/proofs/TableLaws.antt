@@ -3,7 +3,8 @@ use Prim.Native.Nat.{ℕ, ◌+◌, ◌-◌, ◌<◌, ◌≤◌, min}
 use mathlib.Core.Path.{◌≡◌, refl}
 use mathlib.Core.Bool.{Bool, true, false, cond, not, ◌&&◌, ◌||◌}
 use mathlib.Core.List.{List, [], ◌∷◌}
-use mathlib.Core.Option.{Option, none, some}
+use Rattle.std.specs.declared.option.Option.{Option}
+use Rattle.std.specs.declared.option.Option.TheVariants.{None, Some}
 use native.Mathlib.Numerals.{add-one}
 use native.Mathlib.Nat.{sub-zero}
 use lib.ListN.{replicate}
@@ -98,7 +99,7 @@ module _ (t : KeyTable) (n i : ℕ) where
   within_end bits ys h = rw (named_end bits h)
 
   -- the key with keyid x
-  pub key-hit : (x : Bytes) → i < n → same x (view_id (key_at t i).keyid) ≡ true → key_of x (keys_from t n i) ≡ some (view_key (key_at t i))
+  pub key-hit : (x : Bytes) → i < n → same x (view_id (key_at t i).keyid) ≡ true → key_of x (keys_from t n i) ≡ Some (view_key (key_at t i))
   unfolding key_of view_key
   key-hit x h e = rw (keys-next h, e)
 
@@ -106,16 +107,16 @@ module _ (t : KeyTable) (n i : ℕ) where
   unfolding key_of view_key
   key-skip x h e = rw (keys-next h, e)
 
-  pub key-end : (x : Bytes) → n ≤ i → key_of x (keys_from t n i) ≡ none
+  pub key-end : (x : Bytes) → n ≤ i → key_of x (keys_from t n i) ≡ None
   unfolding key_of
   key-end x h = rw (keys-end h)
 
 -- ## What a key asked for gives
 
-pub asked-key : (o : Option rules.Key) (k : Key) → o ≡ some (view_key k) → Asked o true k.public
+pub asked-key : (o : Option rules.Key) (k : Key) → o ≡ Some (view_key k) → Asked o true k.public
 unfolding public_of view_key
 asked-key o k e = record { there = rw e; value = rw e }
 
-pub asked-none : (o : Option rules.Key) → o ≡ none → Asked o false (record { bytes = replicate 32 0 })
+pub asked-none : (o : Option rules.Key) → o ≡ None → Asked o false (record { bytes = replicate 32 0 })
 unfolding public_of view_id window run byte_at
 asked-none o e = record { there = rw e; value = rw e }

@@ -1,6 +1,6 @@
 -- What this crate's functions promise, where that is not a definition of the paper's.
 use Rattle.std.specs.Prelude.{◌≡◌, Bool, not, ◌&&◌, List, ℕ, ◌<◌, ltb}
-use Rattle.std.proofs.Math.Option.{Option}
+use Rattle.std.specs.declared.option.Option.{Option}
 use Rattle.base.specs.Bytes.{Bytes, same}
 use Rattle.rules.specs.Limits.{max_keys}
 use Rattle.rules.specs.Records as rules

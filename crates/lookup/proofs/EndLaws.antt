@@ -1,6 +1,7 @@
 -- Where an array or an object ends: a walk over its elements or members comes to its end.
 use mathlib.Core.Path.{◌≡◌, ap}
-use mathlib.Core.Option.{Option, none, some}
+use Rattle.std.specs.declared.option.Option.{Option}
+use Rattle.std.specs.declared.option.Option.TheVariants.{None, Some}
 use Prim.Native.Nat.{ℕ, ◌≤◌, ◌<◌, ◌-◌}
 use native.Mathlib.Omega.{arith}
 use lib.ListN.{length, drop, length-drop}
@@ -50,8 +51,8 @@ module _ (s : Bytes) (p : ℕ) (m : Element) where
   items-first w = record { left = λ v h. go h.rest (items v) (w.means v h); after = w.onward }
     where
       go : (rest : Bytes) (o : Option Items) → ItemsOf s rest m o → LeftItems s rest m
-      go rest none q = rw q tt
-      go rest (some vs) l = left-items l
+      go rest None q = rw q tt
+      go rest (Some vs) l = left-items l
 
   module _ (w : WalksItems s p m) where
     pub items-next : (i : ℕ) → m ≡ element.At i → (x : Element) → NextElement s i x → WalksItems s p x
@@ -91,8 +92,8 @@ module _ (s : Bytes) (p : ℕ) (m : Member) where
   walks_first w = record { left = λ v h. go h.rest (members v) (w.means v h); after = w.onward }
     where
       go : (rest : Bytes) (o : Option Members) → MembersOf s rest m o → LeftMembers s rest m
-      go rest none q = rw q tt
-      go rest (some ms) l = left-members l
+      go rest None q = rw q tt
+      go rest (Some ms) l = left-members l
 
   module _ (w : Walks s p m) where
     pub walks_next : (i j : ℕ) → m ≡ member.At i j → (x : Member) → NextMember s j x → Walks s p x

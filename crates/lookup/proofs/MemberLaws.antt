@@ -1,7 +1,8 @@
 -- The members of an object one after the other.
 use mathlib.Core.Path.{◌≡◌, refl, sym, ap, ◌∙◌}
 use mathlib.Core.List.{◌∷◌}
-use mathlib.Core.Option.{Option, none, some}
+use Rattle.std.specs.declared.option.Option.{Option}
+use Rattle.std.specs.declared.option.Option.TheVariants.{None, Some}
 use mathlib.Core.Bool.{true, false}
 use Prim.Native.Nat.{ℕ, suc, ◌≤◌, ◌<◌, ◌+◌, ◌-◌}
 use native.Mathlib.Omega.{arith}
@@ -105,10 +106,10 @@ module _ {s rest : Bytes} {i j : ℕ} {n : Bytes} {v : Json} {ms : Members} wher
 
 -- what stands past a bracket or a comma
 data MembersOpen (s rest : Bytes) : Element → Option Members → Type 0 where
-  open_none : MembersOpen s rest element.NoArray none
-  open_end : {e : ℕ} → drop e s ≡ rest → MembersOpen s rest (element.End e) (some mnil)
+  open_none : MembersOpen s rest element.NoArray None
+  open_end : {e : ℕ} → drop e s ≡ rest → MembersOpen s rest (element.End e) (Some mnil)
   open_at : {i : ℕ} {n : Bytes} {v : Json} {ms : Members} → drop i s ≡ MemberText n v ms rest → ValidMembers (mcons n v ms) max_depth
-      → MembersOpen s rest (element.At i) (some (mcons n v ms))
+      → MembersOpen s rest (element.At i) (Some (mcons n v ms))
 
 -- what the program makes of it
 pub data MemberBy (s : Bytes) : Element → Member → Type 0 where
@@ -142,11 +143,11 @@ module _ (s : Bytes) (p : ℕ) where
       rw k (open_at (there s p 123 _ q).2 g)
 
   next-members : {f : Found} {r : Element} → Follows s p 125 f r → KnownEnd s p f
-      → {rest : Bytes} (i : ℕ) (n : Bytes) (v : Json) (ms : Members) → MembersLeft s rest (member.At i p) (mcons n v ms) → MembersOpen s rest r (some ms)
+      → {rest : Bytes} (i : ℕ) (n : Bytes) (v : Json) (ms : Members) → MembersLeft s rest (member.At i p) (mcons n v ms) → MembersOpen s rest r (Some ms)
   unfolding Valid member-before
   next-members {r = r} w known {rest} i n v ms l = go ms l
     where
-      go : (us : Members) → MembersLeft s rest (member.At i p) (mcons n v us) → MembersOpen s rest r (some us)
+      go : (us : Members) → MembersLeft s rest (member.At i p) (mcons n v us) → MembersOpen s rest r (Some us)
       go mnil (members-at t u g) =
           let h = member-before s p n v mnil rest u g in
           let e = length s - length h.rest in

@@ -1,6 +1,8 @@
 -- The search for members, one or several in one walk.
 use mathlib.Core.Path.{◌≡◌, refl, sym}
-use mathlib.Core.Option.{Option, none, some, bind}
+use Rattle.std.specs.declared.option.Option.{Option}
+use Rattle.std.specs.declared.option.Option.TheVariants.{None, Some}
+use Rattle.canonical_json.specs.Options.{bind}
 use mathlib.Core.Bool.{Bool, true, false}
 use Prim.Native.Nat.{ℕ, ◌+◌}
 use lib.ListN.{drop}
@@ -35,7 +37,7 @@ module _ (b : Bool) (x : ℕ) (f : Found) where
 -- f was found of the name k, or the members left at m decide
 abbrev pub Noted : Bytes → Bytes → Member → Found → Option Json → Option ℕ → Type 0
 Noted s k m found.Nothing o q = Sought s k m o × Placed s k m q
-Noted s k m (found.At x) o q = PlaceOf s (found.At x) o × (some x ≡ q)
+Noted s k m (found.At x) o q = PlaceOf s (found.At x) o × (Some x ≡ q)
 
 abbrev pub Seeks : Bytes → ℕ → Bytes → Member → Found → Type 0
 Seeks s p k m f = (v : Json) → Stands s p v → Noted s k m f (field k v) (bind (members v) (place_from (p + 1) k))
@@ -50,7 +52,7 @@ module _ (s : Bytes) (p : ℕ) (k : Bytes) (m : Member) where
 
   module _ (f : Found) (w : Seeks s p k m f) where
     -- what was found when the walk is over
-    finds : ((o : Option Json) → Sought s k m o → o ≡ none) → ((q : Option ℕ) → Placed s k m q → none ≡ q) → (f : Found) → Seeks s p k m f → FindsMember s p k f
+    finds : ((o : Option Json) → Sought s k m o → o ≡ None) → ((q : Option ℕ) → Placed s k m q → None ≡ q) → (f : Found) → Seeks s p k m f → FindsMember s p k f
     unfolding view_found
     finds a b found.Nothing w = record { means = λ v h. a _ (w v h).0; place = λ v h. b _ (w v h).1 }
     finds a b (found.At x) w = record { means = λ v h. (w v h).0; place = λ v h. (w v h).1 }

@@ -1,7 +1,8 @@
 -- Strings in a text: where one begins, its bytes, and copying them.
 use mathlib.Core.Path.{◌≡◌, refl, sym, ap, ◌∙◌}
 use mathlib.Core.List.{[], ◌∷◌, ◌++◌}
-use mathlib.Core.Option.{Option, none, some}
+use Rattle.std.specs.declared.option.Option.{Option}
+use Rattle.std.specs.declared.option.Option.TheVariants.{None, Some}
 use mathlib.Core.Bool.{Bool, true, false, cond}
 use Prim.Native.Nat.{ℕ, ◌≤◌, ◌<◌, ◌+◌}
 use native.Mathlib.Omega.{arith}
@@ -78,8 +79,8 @@ module _ (s : Bytes) (i : ℕ) (r : Char) (w : CharAt s i r) where
 
 -- the string that is found is the value's text, and where the value is none nothing is found
 abbrev pub TextOf : Bytes → Found → Option Bytes → Type 0
-TextOf s Nothing o = o ≡ none
-TextOf s (At i) o = o ≡ some (raw (drop i s))
+TextOf s Nothing o = o ≡ None
+TextOf s (At i) o = o ≡ Some (raw (drop i s))
 
 string-first : (s : Bytes) (p : ℕ) (v : Json) → Stands s p v → string_in p (drop p s) ≡ cond (begins_with 34 v) (At (p + 1)) Nothing
 unfolding string_in
@@ -92,7 +93,7 @@ text_of s p jtrue h = rw (string-first s p jtrue h) refl
 text_of s p jfalse h = rw (string-first s p jfalse h) refl
 text_of s p (num true ds) h = rw (string-first s p (num true ds) h) refl
 text_of s p (num false ds) h = rw (string-first s p (num false ds) h) refl
-text_of s p (str b) h = rw (string-first s p (str b) h) (ap some (sym (ap raw (there s p 34 _ (h.text ∙ put-str b h.rest)).2 ∙ raw-bytes b h.rest)))
+text_of s p (str b) h = rw (string-first s p (str b) h) (ap Some (sym (ap raw (there s p 34 _ (h.text ∙ put-str b h.rest)).2 ∙ raw-bytes b h.rest)))
 text_of s p (arr xs) h = rw (string-first s p (arr xs) h) refl
 text_of s p (obj ms) h = rw (string-first s p (obj ms) h) refl
 
@@ -118,10 +119,10 @@ string_standing s p i v h e = go v h
     go (obj ms) h = other (sym (string-first s p (obj ms) h) ∙ e)
 
 module _ (s : Bytes) (p : ℕ) (v : Json) (h : Stands s p v) (r : Found) (q : r ≡ string_in p (drop p s)) where
-  pub no_text : r ≡ Nothing → text v ≡ none
+  pub no_text : r ≡ Nothing → text v ≡ None
   no_text e = let k : string_in p (drop p s) ≡ Nothing = sym q ∙ e in rw k at (text_of s p v h)
 
-  pub text-there : (i : ℕ) → r ≡ At i → text v ≡ some (raw (drop i s))
+  pub text-there : (i : ℕ) → r ≡ At i → text v ≡ Some (raw (drop i s))
   text-there i e = let k : string_in p (drop p s) ≡ At i = sym q ∙ e in rw k at (text_of s p v h)
 
   pub string-text : (i : ℕ) → r ≡ At i → drop i s ≡ put_bytes (raw (drop i s)) (34 ∷ h.rest)

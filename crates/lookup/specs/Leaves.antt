@@ -1,6 +1,7 @@
 -- Strings, numbers and truth values at a place of any text: these answers are pinned for every text.
 use Rattle.std.specs.Prelude.{◌≡◌, [], ◌∷◌, ◌++◌, Bool, true, false, cond, ℕ, ◌+◌, ◌-◌, ◌*◌, leb, eqb, length, drop}
-use Rattle.std.proofs.Math.Option.{Option, none, some}
+use Rattle.std.specs.declared.option.Option.{Option}
+use Rattle.std.specs.declared.option.Option.TheVariants.{None, Some}
 use Prim.Native.Char.{code}
 use Rattle.base.specs.Bytes.{Bytes, same, less, is_digit}
 use Rattle.canonical_json.specs.Fields.{keep, between}
@@ -46,20 +47,20 @@ leading_to hi t = keep (leb (leading 0 t) hi) (leading 0 t)
 
 -- a number from lo to hi in front of the text
 unfoldable pub number_in : ℕ → ℕ → Bytes → Option ℕ
-number_in lo hi [] = none
-number_in lo hi (b ∷ t) = cond (is_digit b) (between lo hi (leading 0 (b ∷ t))) none
+number_in lo hi [] = None
+number_in lo hi (b ∷ t) = cond (is_digit b) (between lo hi (leading 0 (b ∷ t))) None
 
 abbrev pub view_number : Number → Option ℕ
-view_number number.No = none
-view_number (number.Is n) = some n
+view_number number.No = None
+view_number (number.Is n) = Some n
 
 -- ## Truth values
 
 -- true or false, by the first byte
 unfoldable pub truth_in : Bytes → Option Bool
-truth_in [] = none
-truth_in (b ∷ t) = cond (eqb b (code "t")) (some true) (cond (eqb b (code "f")) (some false) none)
+truth_in [] = None
+truth_in (b ∷ t) = cond (eqb b (code "t")) (Some true) (cond (eqb b (code "f")) (Some false) None)
 
 abbrev pub view_truth : Truth → Option Bool
-view_truth truth.No = none
-view_truth (truth.Is b) = some b
+view_truth truth.No = None
+view_truth (truth.Is b) = Some b

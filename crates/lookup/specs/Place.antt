@@ -1,6 +1,8 @@
 -- A value at a place of a text, and what a place that is handed back says.
 use Rattle.std.specs.Prelude.{◌≡◌, Bool, cond, ℕ, ◌+◌, ◌-◌, ◌<◌, ◌≤◌, length, drop}
-use Rattle.std.proofs.Math.Option.{Option, none, some, bind}
+use Rattle.std.specs.declared.option.Option.{Option}
+use Rattle.std.specs.declared.option.Option.TheVariants.{None, Some}
+use Rattle.canonical_json.specs.Options.{bind}
 use Rattle.base.specs.Bytes.{Bytes}
 use Rattle.canonical_json.specs.Json.{Json, put, Valid, max_depth}
 use Rattle.canonical_json.specs.Read.{NoDigit}
@@ -18,8 +20,8 @@ pub record Stands (s : Bytes) (p : ℕ) (v : Json) : Type 0 where
 
 -- r is the place of the value o, or says that there is none
 abbrev pub PlaceOf : Bytes → Found → Option Json → Type 0
-PlaceOf s Nothing o = o ≡ none
-PlaceOf s (At x) o = (w : Json) × (o ≡ some w) × Stands s x w
+PlaceOf s Nothing o = o ≡ None
+PlaceOf s (At x) o = (w : Json) × (o ≡ Some w) × Stands s x w
 
 -- What a function promises that looks for something in the value at p. Where no value stands there the answer is the program's choice.
 abbrev pub Finds : Bytes → ℕ → (Json → Option Json) → Found → Type 0
@@ -27,8 +29,8 @@ Finds s p f r = (v : Json) → Stands s p v → PlaceOf s r (f v)
 
 -- the place that was found
 unfoldable pub view_found : Found → Option ℕ
-view_found Nothing = none
-view_found (At x) = some x
+view_found Nothing = None
+view_found (At x) = Some x
 
 -- What the search for a member promises: the member's value stands at the place, and it is that member's own place. (An equal value may stand elsewhere too.)
 pub record FindsMember (s : Bytes) (p : ℕ) (k : Bytes) (r : Found) : Type 0 where

@@ -1,6 +1,7 @@
 -- Elements of an array and members of an object in order, with their places.
 use Rattle.std.specs.Prelude.{◌≡◌, [], ◌∷◌, cond, ℕ, ◌+◌, ◌-◌, ◌<◌, ◌≤◌, eqb, length, drop}
-use Rattle.std.proofs.Math.Option.{Option, none, some}
+use Rattle.std.specs.declared.option.Option.{Option}
+use Rattle.std.specs.declared.option.Option.TheVariants.{None, Some}
 use Prim.Native.Char.{code}
 use Rattle.base.specs.Bytes.{Bytes}
 use Rattle.canonical_json.specs.Json.{Json, Items, inil, icons, Members, mnil, mcons, put, put_bytes, put_str, put_more_items, put_more_members, ValidItems, ValidMembers, max_depth}
@@ -51,8 +52,8 @@ pub data ItemsLeft (s rest : Bytes) : Element → Items → Type 0 where
 
 -- r is where the elements o begin, or says that there is no array
 abbrev pub ItemsOf : Bytes → Bytes → Element → Option Items → Type 0
-ItemsOf s rest r none = r ≡ element.NoArray
-ItemsOf s rest r (some xs) = ItemsLeft s rest r xs
+ItemsOf s rest r None = r ≡ element.NoArray
+ItemsOf s rest r (Some xs) = ItemsLeft s rest r xs
 
 -- What the functions promise that walk: `means` where a value stands, and elsewhere the answer is the program's choice; `onward` of every text, so that loops end.
 -- `place`: the first element begins past the opening bracket, a later one past the value before it and a comma. (Equal elements may stand elsewhere too.)
@@ -82,8 +83,8 @@ pub data MembersLeft (s rest : Bytes) : Member → Members → Type 0 where
 
 -- r is where the members o begin, or says that there is no object
 abbrev pub MembersOf : Bytes → Bytes → Member → Option Members → Type 0
-MembersOf s rest r none = r ≡ member.NoObject
-MembersOf s rest r (some ms) = MembersLeft s rest r ms
+MembersOf s rest r None = r ≡ member.NoObject
+MembersOf s rest r (Some ms) = MembersLeft s rest r ms
 
 -- a member that is handed back lies after p and in the text
 abbrev pub MemberAfter : Bytes → ℕ → Member → Type 0

@@ -1,6 +1,8 @@
 -- The keyids of a key table, member by member.
 use mathlib.Core.Path.{◌≡◌, refl, ap, ◌∙◌}
-use mathlib.Core.Option.{Option, none, some, bind}
+use Rattle.std.specs.declared.option.Option.{Option}
+use Rattle.std.specs.declared.option.Option.TheVariants.{None, Some}
+use Rattle.canonical_json.specs.Options.{bind}
 use mathlib.Core.Bool.{Bool, true, false}
 use Prim.Native.Nat.{ℕ, ◌-◌}
 use lib.ListN.{take, drop}
@@ -48,8 +50,8 @@ unfolding own_table
 own_first s p r w v h = go (members v) (w.means v h)
   where
     go : (o : Option Members) → MembersOf s h.rest r o → OwnLeft s (own_table o) r
-    go none q = rw q (no_table_lem refl)
-    go (some ms) l = left ms l refl
+    go None q = rw q (no_table_lem refl)
+    go (Some ms) l = left ms l refl
 
 module _ {s : Bytes} {all : Bool} where
   pub own-none : OwnLeft s all member.NoObject → true ≡ all
@@ -77,10 +79,10 @@ module _ {s : Bytes} {all : Bool} where
 module _ (s : Bytes) (p : ℕ) (k : Bytes) (found : Found) (w : Finds s p (field k) found) where
   pub table_none : found ≡ Nothing → Tests s p (λ v. own_table (must k members v)) true
   unfolding must own_table bind
-  table_none q v h = let z : field k v ≡ none = rw q at (w v h) in rw z
+  table_none q v h = let z : field k v ≡ None = rw q at (w v h) in rw z
 
   pub table_at : (x : ℕ) (r : Bool) → found ≡ At x → Tests s x (λ v. own_table (members v)) r → Tests s p (λ v. own_table (must k members v)) r
   unfolding must bind
   table_at x r q t v h =
-      let z : (u : Json) × (field k v ≡ some u) × Stands s x u = rw q at (w v h) in
+      let z : (u : Json) × (field k v ≡ Some u) × Stands s x u = rw q at (w v h) in
       rw z.1 (t z.0 z.2)

@@ -2,7 +2,6 @@
 #![tactic(auto)]
 
 ghost use Rattle.std.specs.Prelude.{◌≡◌, false, drop};
-ghost use Rattle.std.proofs.Math.Option.{some};
 ghost use Rattle.base.specs.Bytes.{bytes, same};
 ghost use Rattle.canonical_json.specs.Read.{raw};
 ghost use Rattle.canonical_json.specs.Fields.{members, keep};
@@ -613,7 +612,7 @@ fn refused(answer: u8) -> RootRead
 
 // 3 before 16 and 16 before 4: the keyids and the spec_version are asked for when everything else was read.
 pub fn read_root(file: &[u8]) -> RootRead
-    ensures { view_root_read result ≡ some (root_in file.now) }
+    ensures { view_root_read result ≡ Some (root_in file.now) }
 {
     let opened = envelope::open_envelope(file);
     if opened.answer != 0 {

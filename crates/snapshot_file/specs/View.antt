@@ -1,6 +1,6 @@
 -- What the answers stand for.
 use Rattle.std.specs.Prelude.{◌≡◌, Bool, true, false, List}
-use Rattle.std.proofs.Math.Option.{Option}
+use Rattle.std.specs.declared.option.Option.{Option}
 use Rattle.base.specs.Bytes.{Bytes}
 use Rattle.canonical_json.specs.Fields.{keep}
 use Rattle.lookup.specs.declared.Found.{Found}

@@ -2,7 +2,6 @@
 #![tactic(auto)]
 
 ghost use Rattle.std.specs.Prelude.{◌≡◌, drop};
-ghost use Rattle.std.proofs.Math.Option.{none, some};
 ghost use Rattle.canonical_json.specs.Read.{raw};
 ghost use Rattle.lookup.specs.Place.{Takes, KnownEnd, FoundEnd};
 ghost use Rattle.lookup.specs.declared.Found.TheVariants.{Nothing};
@@ -55,7 +54,7 @@ pub struct NamedAt {
 }
 
 fn no_named() -> NamedAt
-    ensures { (view_named_at result ≡ none) × (result.end ≡ Nothing) }
+    ensures { (view_named_at result ≡ None) × (result.end ≡ Nothing) }
 {
     let blank = forms::no_listed();
     let listed = blank.listed;
@@ -102,7 +101,7 @@ pub struct NamesAt {
 }
 
 fn no_names() -> NamesAt
-    ensures { (view_names_at result ≡ none) × (result.end ≡ Nothing) }
+    ensures { (view_names_at result ≡ None) × (result.end ≡ Nothing) }
 {
     let blank = no_named();
     let named = blank.named;
@@ -220,7 +219,7 @@ fn refused(answer: u8) -> SnapshotRead
 }
 
 pub fn read_snapshot(file: &[u8]) -> SnapshotRead
-    ensures { view_snapshot_read result ≡ some (snapshot_in file.now) }
+    ensures { view_snapshot_read result ≡ Some (snapshot_in file.now) }
 {
     let opened = envelope::open_envelope(file);
     if opened.answer != 0 {

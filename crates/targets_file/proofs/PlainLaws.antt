@@ -1,7 +1,8 @@
 -- The one text of an image with no members but "hashes" and "length", and no hash but "sha256": it is read as that image.
 use mathlib.Core.Path.{◌≡◌, refl, sym, ap, ◌∙◌}
 use mathlib.Core.List.{[], ◌∷◌, ◌++◌}
-use mathlib.Core.Option.{some, bind}
+use Rattle.std.specs.declared.option.Option.TheVariants.{Some}
+use Rattle.canonical_json.specs.Options.{bind}
 use mathlib.Core.Bool.{true, false}
 use Prim.Native.Nat.{ℕ, ◌+◌, ◌-◌, ◌*◌, ◌<◌}
 use Prim.Native.Char.{code}
@@ -68,7 +69,7 @@ written s p e x = go (number false (drop p s)) refl x
         }
 
 pub plain-length : (s : Bytes) (i p e : ℕ) (r : ImageAt) → End e ≡ end_of (length s) (number false (drop p s)) → e < length s → get_or s e 0 ≡ code "}"
-    → r.digest ≡ i → r.end ≡ At (e + 1) → some r.length ≡ number_in 0 max_length (drop p s) → PlainLength s i p r
+    → r.digest ≡ i → r.end ≡ At (e + 1) → Some r.length ≡ number_in 0 max_length (drop p s) → PlainLength s i p r
 unfolding Valid
 plain-length s i p e r x h b d n k =
     let w = written s p e x in
@@ -97,8 +98,8 @@ module _ (hash written q : Bytes) (h : all_hex hash ≡ true) (v : valid_num fal
   plain-valid = (to_rfc (bytes "hashes") refl, (to_rfc (bytes "sha256") refl, hex-valid hash h, tt), (refl, to_rfc (bytes "length") refl, v, tt))
 
 -- what it says
-plain-says : (hash written : Bytes) → is_hex digest_size hash ≡ true → (n : ℕ) → some n ≡ fields.number 0 max_length (num false written)
-    → some (record { length = n; digest = undo hash }) ≡ description (plain_image hash written)
+plain-says : (hash written : Bytes) → is_hex digest_size hash ≡ true → (n : ℕ) → Some n ≡ fields.number 0 max_length (num false written)
+    → Some (record { length = n; digest = undo hash }) ≡ description (plain_image hash written)
 unfolding plain_image description must sha256 hex unhex field members lookup text keep bind same
 plain-says hash written h n e = rw (← e, h) refl
 
@@ -130,8 +131,8 @@ module _ (s : Bytes) (p i q : ℕ) (r : ImageAt)
         means =
             rw ok
             (takes_of s p _ _ plain-read description _
-            (ap (λ (n : ℕ). some (record { length = r.length; digest = undo (raw (drop n s)) })) w.digest
-            ∙ ap (λ (x : Bytes). some (record { length = r.length; digest = undo x })) d
+            (ap (λ (n : ℕ). Some (record { length = r.length; digest = undo (raw (drop n s)) })) w.digest
+            ∙ ap (λ (x : Bytes). Some (record { length = r.length; digest = undo x })) d
             ∙ plain-says hash w.written (ap (is_hex digest_size) (sym d) ∙ is) r.length w.is));
         digits = λ _. ap (λ (n : ℕ). is_hex digest_size (raw (drop n s))) w.digest ∙ is;
         end = known_as s p _ _ w.end (ends_of s p _ _ plain-read w.past refl (let a = w.within.0 in omega arith) w.within.1);

@@ -1,6 +1,6 @@
 -- An image with no members but "hashes" and "length", and no hash but "sha256".
 use Rattle.std.specs.Prelude.{◌≡◌, true, false, ◌∷◌, ◌++◌, ℕ, ◌<◌, ◌≤◌, length, drop}
-use Rattle.std.proofs.Math.Option.{some}
+use Rattle.std.specs.declared.option.Option.TheVariants.{Some}
 use Prim.Native.Char.{code}
 use Rattle.base.specs.Bytes.{Bytes, bytes}
 use Rattle.canonical_json.specs.Json.{Json, num, str, obj, mnil, mcons, valid_num}
@@ -29,4 +29,4 @@ pub record PlainLength (s : Bytes) (i p : ℕ) (r : ImageAt) : Type 0 where
   pub written : Bytes
   pub valid : valid_num false written ≡ true
   pub text : drop p s ≡ written ++ (code "}" ∷ drop past s)
-  pub is : some r.length ≡ number 0 max_length (num false written)
+  pub is : Some r.length ≡ number 0 max_length (num false written)

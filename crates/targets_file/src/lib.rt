@@ -3,7 +3,6 @@
 #![tactic(auto)]
 
 ghost use Rattle.std.specs.Prelude.{◌≡◌, true, false};
-ghost use Rattle.std.proofs.Math.Option.{none, some};
 ghost use Rattle.lookup.specs.Place.{Takes, KnownEnd, FoundEnd};
 ghost use Rattle.lookup.specs.declared.Found.TheVariants.{Nothing, At};
 ghost use Rattle.rules.specs.Limits.{digest_size};
@@ -170,7 +169,7 @@ pub struct Search {
 
 // The path was not among the names compared.
 fn not_found(over: bool, compared: usize) -> Search
-    ensures { view_search result ≡ record { over = over; compared = compared; image = none } }
+    ensures { view_search result ≡ record { over = over; compared = compared; image = None } }
 {
     Search {
         over,
@@ -220,7 +219,7 @@ pub struct ImagesAt {
 }
 
 fn no_images() -> ImagesAt
-    ensures { (view_images result ≡ none) × (result.end ≡ Nothing) }
+    ensures { (view_images result ≡ None) × (result.end ≡ Nothing) }
 {
     let search = not_found(true, 0);
     ImagesAt {
@@ -305,7 +304,7 @@ fn refused(answer: u8) -> TargetsRead
 }
 
 pub fn read_targets(file: &[u8], path: &[u8]) -> TargetsRead
-    ensures { view_targets_read result ≡ some (kept (seen path.now) (targets_in file.now)) }
+    ensures { view_targets_read result ≡ Some (kept (seen path.now) (targets_in file.now)) }
 {
     let opened = envelope::open_envelope(file);
     if opened.answer != 0 {

@@ -2,7 +2,6 @@
 #![tactic(auto)]
 
 ghost use Rattle.std.specs.Prelude.{◌≡◌};
-ghost use Rattle.std.proofs.Math.Option.{some};
 ghost use Rattle.base.specs.Bytes.{bytes};
 ghost use Rattle.lookup.specs.Place.{Takes, KnownEnd, FoundEnd};
 ghost use Rattle.rules.specs.Take.{sole};
@@ -94,7 +93,7 @@ fn refused(answer: u8) -> TimestampRead
 }
 
 pub fn read_timestamp(file: &[u8]) -> TimestampRead
-    ensures { view_timestamp_read result ≡ some (timestamp_in file.now) }
+    ensures { view_timestamp_read result ≡ Some (timestamp_in file.now) }
 {
     let opened = envelope::open_envelope(file);
     if opened.answer != 0 {

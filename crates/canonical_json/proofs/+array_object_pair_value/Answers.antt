@@ -1,6 +1,6 @@
 -- The readers of values, arrays, objects and members, which call one another, meet their contracts: each way out is one law.
 use mathlib.Core.Path.{sym, ◌∙◌}
-use mathlib.Core.Option.{none}
+use Rattle.std.specs.declared.option.Option.TheVariants.{None}
 use native.Mathlib.Omega.{arith}
 use Rattle.canonical_json.specs.Read.{read}
 use Rattle.canonical_json.specs.Names.{last_of}
@@ -79,17 +79,17 @@ array-returns t c =
 pub object-returns-then-s-at : goal.object-returns-then-s-at
 object-returns-then-s-at t c =
     let a = c.args in
-    sym (loops.over (objects a.depth) a.s.now none a.at c.if-s-at.true)
+    sym (loops.over (objects a.depth) a.s.now None a.at c.if-s-at.true)
 
 pub object-returns-then-s-at-eq125 : goal.object-returns-then-s-at-eq125
 object-returns-then-s-at-eq125 t c =
     let a = c.args in
-    sym (loops.empty (objects a.depth) a.s.now none a.at c.if-s-at.false c.if-s-at-eq125.true)
+    sym (loops.empty (objects a.depth) a.s.now None a.at c.if-s-at.false c.if-s-at-eq125.true)
 
 pub object-loop-i-init : goal.object-loop-i-init
 object-loop-i-init t c =
     let a = c.args in
-    loops.begun (objects a.depth) a.s.now none a.at c.if-s-at.false c.if-s-at-eq125.false
+    loops.begun (objects a.depth) a.s.now None a.at c.if-s-at.false c.if-s-at-eq125.false
 
 pub object-pair-requires : goal.object-pair-requires
 object-pair-requires t c = (omega arith, tt)

@@ -1,6 +1,6 @@
 -- `spec_at` meets its contract.
 use mathlib.Core.Path.{refl, ap}
-use mathlib.Core.Option.{some}
+use Rattle.std.specs.declared.option.Option.TheVariants.{Some}
 use Rattle.canonical_json.specs.Fields.{keep}
 use Rattle.forms.proofs.StepLaws.{text-none, text_at}
 use Rattle.envelope.specs.Header.{spec_known, view_spec}
@@ -12,4 +12,4 @@ returns-in-Nothing c = text-none _ _ c.string_at.ensures _ _ c.in-Nothing.is ref
 
 pub returns-in-At : goal.returns-in-At
 unfolding spec_known view_spec keep
-returns-in-At c = text_at _ _ c.string_at.ensures _ _ _ c.in-At.is (ap some c.spec_in-known.ensures)
+returns-in-At c = text_at _ _ c.string_at.ensures _ _ _ c.in-At.is (ap Some c.spec_in-known.ensures)

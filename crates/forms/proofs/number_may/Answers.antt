@@ -1,6 +1,6 @@
 -- `number_may` meets its contract.
 use mathlib.Core.Path.{refl}
-use mathlib.Core.Option.{bind}
+use Rattle.canonical_json.specs.Options.{bind}
 use Rattle.canonical_json.specs.Fields.{keep}
 use Rattle.lookup.proofs.NumberLaws.{number_takes}
 use Rattle.forms.specs.View.{view_may_number}

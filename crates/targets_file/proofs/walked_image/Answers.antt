@@ -1,6 +1,6 @@
 -- `walked_image` meets its contract.
 use mathlib.Core.Path.{sym, ap, ◌∙◌}
-use mathlib.Core.Option.{bind}
+use Rattle.canonical_json.specs.Options.{bind}
 use Rattle.canonical_json.specs.Fields.{keep}
 use Rattle.lookup.specs.Leaves.{view_number}
 use Rattle.forms.specs.View.{undone_at}
