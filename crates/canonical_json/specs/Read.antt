@@ -5,10 +5,7 @@ use Rattle.std.specs.declared.option.Option.TheVariants.{None, Some}
 use Rattle.base.specs.Bytes.{Bytes, bytes, less, is_digit}
 use Rattle.canonical_json.specs.Lead.{lead_of, within}
 use Rattle.canonical_json.specs.Json.{Json, jnull, jtrue, jfalse, num, str, arr, obj, Items, inil, icons, Members, mnil, mcons}
-use Rattle.canonical_json.specs.declared.LeadByte.{LeadByte}
-use Rattle.canonical_json.specs.declared.LeadByte.TheVariants.{Bad, Seq}
-use Rattle.canonical_json.specs.declared.Skip.{Skip}
-use Rattle.canonical_json.specs.declared.Skip.TheVariants.{No, End}
+use Rattle.canonical_json.specs.declared.Sequence.{Sequence}
 use Rattle.canonical_json.specs.declared.Kind.{Kind}
 use Rattle.canonical_json.specs.declared.Kind.TheVariants.{Text, Minus, Digit, Array, Object, True, False, Null, Other}
 
@@ -17,9 +14,9 @@ pub data Got (A : Type 0) : Type 0 where
   got : A → Bytes → Got A
 
 -- where the rest begins, in a text of n bytes
-abbrev pub end_of : {A : Type 0} → ℕ → Got A → Skip
-end_of n bad = No
-end_of n (got a r) = End (n - length r)
+abbrev pub end_of : {A : Type 0} → ℕ → Got A → Option ℕ
+end_of n bad = None
+end_of n (got a r) = Some (n - length r)
 
 -- ## Combinators. What may not be needed is a function of `Unit`, which waits
 
@@ -42,9 +39,9 @@ front (c ∷ r) k = k c r
 abbrev pub expect : {B : Type 0} → ℕ → Bytes → (Bytes → Got B) → Got B
 expect c t k = front t (λ b r. choose (eqb b c) (λ _. k r) (λ _. bad))
 
-abbrev pub led : {B : Type 0} → LeadByte → (ℕ → ℕ → ℕ → Got B) → Got B
-led Bad k = bad
-led (Seq m l h) k = k m l h
+abbrev pub led : {B : Type 0} → Option Sequence → (ℕ → ℕ → ℕ → Got B) → Got B
+led None k = bad
+led (Some l) k = k l.more l.lo l.hi
 
 -- ## Strings
 
