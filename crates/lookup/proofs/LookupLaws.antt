@@ -12,7 +12,6 @@ use Rattle.canonical_json.specs.Read.{raw}
 use Rattle.canonical_json.specs.Fields.{members, lookup, field}
 use Rattle.lookup.specs.Place.{Stands, PlaceOf}
 use Rattle.lookup.specs.Walk.{MembersLeft, members-end, members-at, MembersOf, FirstMember, NextMember}
-use Rattle.lookup.specs.declared.Found.TheVariants as found
 use Rattle.lookup.specs.declared.Member.{Member}
 use Rattle.lookup.specs.declared.Member.TheVariants.{NoObject, End, At}
 use Rattle.lookup.proofs.MemberLaws.{member-stands, member-name}
@@ -53,7 +52,7 @@ module _ (s k : Bytes) where
       unfolding lookup
       lookup-is = here.5 ∙ ap (λ (n : Bytes). cond (same n k) (Some here.2) (lookup k here.3)) (sym (member-name here.4))
 
-      pub sought_here : true ≡ same (raw (drop i s)) k → PlaceOf s (found.At j) o
+      pub sought_here : true ≡ same (raw (drop i s)) k → PlaceOf s (Some j) o
       sought_here e = (here.2, lookup-is ∙ rw (sym e) refl, member-stands here.4)
 
       pub sought_next : false ≡ same (raw (drop i s)) k → {x : Member} → NextMember s j x → Sought s k x o
