@@ -7,6 +7,8 @@ use Rattle.base.specs.Bytes.{Bytes}
 use Rattle.canonical_json.specs.Json.{Json, put, Valid, max_depth}
 use Rattle.canonical_json.specs.Read.{NoDigit}
 use Rattle.canonical_json.specs.Fields.{members, field, place_from}
+use Rattle.std.specs.Option.{option_map}
+use Rattle.lookup.specs.declared.Spanned.{Spanned}
 use Rattle.lookup.specs.declared.Members.{Members}
 
 -- the text of v stands at place p of s, and what follows does not prolong it
@@ -58,6 +60,16 @@ KnownEnd s p (Some e) = EndsAt s p (Some e)
 abbrev pub FoundEnd : Bytes → Option ℕ → Option ℕ → Type 0
 FoundEnd s None end = Unit {0}
 FoundEnd s (Some x) end = KnownEnd s x end
+
+-- the end that came with what was read
+abbrev pub end_of : {T : Type 0} → Option (Spanned T) → Option ℕ
+end_of None = None
+end_of (Some r) = r.end
+
+-- What a reader promises that takes something out of the value at p and may tell where that ends: what it took, by what that stands for, and the end.
+pub record Reads {T A : Type 0} (view : T → A) (s : Bytes) (p : ℕ) (form : Json → Option A) (r : Option (Spanned T)) : Type 0 where
+  pub means : Takes s p form (option_map (λ (x : Spanned T). view x.value) r)
+  pub end : KnownEnd s p (end_of r)
 
 -- r is where the value at p ends, by what is known of it or looked for
 pub record EndsBy (s : Bytes) (p : ℕ) (known r : Option ℕ) : Type 0 where

@@ -197,6 +197,13 @@ pub struct Extent {
     pub end: Option<usize>,
 }
 
+// What was read of a value, and where the value ends, if that is known.
+#[derive(Clone, Copy)]
+pub struct Spanned<T> {
+    pub value: T,
+    pub end: Option<usize>,
+}
+
 // Of no value is the end known.
 pub fn no_extent() -> Extent
     ensures { result.end ≡ None }
