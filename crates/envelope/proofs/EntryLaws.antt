@@ -17,7 +17,6 @@ use Rattle.canonical_json.specs.Json.{Json, Items, inil, icons}
 use Rattle.canonical_json.specs.Read.{raw}
 use Rattle.canonical_json.specs.Fields.{items, size, keep}
 use Rattle.lookup.specs.Place.{Stands}
-use Rattle.lookup.specs.declared.Found.TheVariants.{Nothing}
 use Rattle.lookup.proofs.StandsLaws.{known-none}
 use Rattle.rules.specs.Limits.{max_entries, key_size, signature_size}
 use Rattle.rules.specs.Take.{◌>>=◌, must, hex, each}
@@ -46,7 +45,7 @@ module _ (v : Json) where
     entry-is sig f = rw (← e, ← f)
 
 -- the form is broken
-pub broken-entry : (s : Bytes) (p : ℕ) (r : EntryAt) → r.ok ≡ false → r.end ≡ Nothing → ((v : Json) → Stands s p v → None ≡ entry v) → ReadsEntry s p r
+pub broken-entry : (s : Bytes) (p : ℕ) (r : EntryAt) → r.ok ≡ false → r.end ≡ None → ((v : Json) → Stands s p v → None ≡ entry v) → ReadsEntry s p r
 unfolding view_entry
 broken-entry s p r o e f = record {
   means = λ v h. cut _ _ o ∙ f v h;

@@ -12,8 +12,6 @@ use Rattle.base.specs.Bytes.{Bytes, bytes}
 use Rattle.canonical_json.specs.Json.{Json, Members, put, Canonical, max_depth}
 use Rattle.canonical_json.specs.Fields.{members, lookup, field, keep, place_of}
 use Rattle.lookup.specs.Place.{Stands, PlaceOf, Takes, view_found, FindsMember}
-use Rattle.lookup.specs.declared.Found.{Found}
-use Rattle.lookup.specs.declared.Found.TheVariants.{Nothing, At}
 use Rattle.rules.specs.Limits.{max_file}
 use Rattle.rules.specs.Take.{◌>>=◌, must}
 use Rattle.rules.specs.Records.{Entry}
@@ -145,12 +143,12 @@ module _ (file : Bytes) (r : Opened) where
         pub opens_unsigned : ok ≡ false → IsShut r 3 → Opens file r (read_envelope file)
         opens_unsigned q x = broken (no-keyids c.0 ok ks (t c.0 here) q) x
 
-        module _ (f : Found) (w : FindsMember file 0 (bytes "signed") f) where
-          pub opens-nothing : f ≡ Nothing → IsShut r 3 → Opens file r (read_envelope file)
+        module _ (f : Option ℕ) (w : FindsMember file 0 (bytes "signed") f) where
+          pub opens-nothing : f ≡ None → IsShut r 3 → Opens file r (read_envelope file)
           opens-nothing q x = broken (no_signed c.0 (rw q at (w.means c.0 here))) x
 
-          module _ (start : ℕ) (q : f ≡ At start) where
-            signed : PlaceOf file (At start) (field (bytes "signed") c.0)
+          module _ (start : ℕ) (q : f ≡ Some start) where
+            signed : PlaceOf file (Some start) (field (bytes "signed") c.0)
             signed = rw q at (w.means c.0 here)
 
             place : Some start ≡ (members c.0 >>= place_of (bytes "signed"))

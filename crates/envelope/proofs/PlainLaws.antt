@@ -14,7 +14,7 @@ use Rattle.canonical_json.specs.Read.{got, read, raw}
 use Rattle.canonical_json.specs.Fields.{field, members, lookup, text, keep}
 use Rattle.canonical_json.proofs.Rfc.{to_rfc}
 use Rattle.canonical_json.proofs.Complete.{complete-object}
-use Rattle.lookup.specs.declared.Found.TheVariants.{At}
+use Rattle.std.specs.declared.option.Option.TheVariants.{None, Some}
 use Rattle.lookup.proofs.StandsLaws.{known_as, takes_of, ends_of}
 use Rattle.rules.specs.Limits.{key_size, signature_size}
 use Rattle.rules.specs.Take.{must, hex, unhex}
@@ -64,7 +64,7 @@ module _ (s : Bytes) (p e : ℕ) (r : EntryAt)
       ∙ sym (plain-text id_text sig_text (drop e s) h k) in
       ap (read max_depth) t ∙ complete-object _ max_depth (drop e s) (plain-valid id_text sig_text (drop e s) h k)
 
-  pub plain-reads : r.ok ≡ true → r.end ≡ At e → p < e → e ≤ length s → ReadsEntry s p r
+  pub plain-reads : r.ok ≡ true → r.end ≡ Some e → p < e → e ≤ length s → ReadsEntry s p r
   unfolding view_entry keep id_text sig_text
   plain-reads ok end lo hi = record {
     means =

@@ -6,18 +6,17 @@ use Rattle.base.specs.Bytes.{Bytes, bytes}
 use Rattle.base.specs.Hex.{is_hex, undo}
 use Rattle.canonical_json.specs.Json.{Json}
 use Rattle.canonical_json.specs.Read.{raw}
-use Rattle.canonical_json.specs.Fields.{text, keep}
-use Rattle.lookup.specs.Place.{Takes, KnownEnd}
+use Rattle.canonical_json.specs.Fields.{text}
+use Rattle.lookup.specs.Place.{Reads}
+use Rattle.lookup.specs.declared.Spanned.{Spanned}
+use Rattle.std.specs.Option.{IfSome}
 use Rattle.rules.specs.Limits.{key_size, signature_size}
 use Rattle.rules.specs.Take.{◌>>=◌, must, word, date}
 use Rattle.rules.specs.Records as rules
 use Rattle.rules.specs.Forms as forms
 use Rattle.rules.specs.Reading.{keyids_of}
-use Rattle.records.specs.View.{view_entries}
 use Rattle.envelope.specs.declared.EntryAt.{EntryAt}
-use Rattle.envelope.specs.declared.EntriesAt.{EntriesAt}
-use Rattle.envelope.specs.declared.Spec.{Spec}
-use Rattle.envelope.specs.declared.HeaderAt.{HeaderAt}
+use Rattle.envelope.specs.declared.Header as declared
 
 -- ## Entries
 
@@ -30,18 +29,18 @@ unfoldable pub keyids : Json → Option (List Bytes)
 keyids v = forms.entries v >>= λ es. Some (keyids_of es)
 
 -- an entry by the places of its digits
-unfoldable pub view_entry : Bytes → EntryAt → Option rules.Entry
-view_entry s r = keep r.ok (record { keyid = undo (raw (drop r.keyid s)); sig = undo (raw (drop r.sig s)) })
+unfoldable pub entry_in : Bytes → EntryAt → rules.Entry
+entry_in s r = record { keyid = undo (raw (drop r.keyid s)); sig = undo (raw (drop r.sig s)) }
 
--- What a reader promises of the entry at p: what it says, that digits stand at the places, and where it ends.
-pub record ReadsEntry (s : Bytes) (p : ℕ) (r : EntryAt) : Type 0 where
-  pub means : Takes s p forms.entry (view_entry s r)
-  pub keyid : r.ok ≡ true → is_hex key_size (raw (drop r.keyid s)) ≡ true
-  pub sig : r.ok ≡ true → is_hex signature_size (raw (drop r.sig s)) ≡ true
-  pub end : KnownEnd s p r.end
+-- digits stand at the places
+pub record HexEntry (s : Bytes) (r : EntryAt) : Type 0 where
+  pub keyid : is_hex key_size (raw (drop r.keyid s)) ≡ true
+  pub sig : is_hex signature_size (raw (drop r.sig s)) ≡ true
 
-unfoldable pub view_entries_at : EntriesAt → Option (List Bytes)
-view_entries_at r = keep r.ok (view_entries r.entries)
+-- What a reader promises of the entry at p: what it says and where it ends, and that digits stand at its places.
+pub record ReadsEntry (s : Bytes) (p : ℕ) (r : Option (Spanned EntryAt)) : Type 0 where
+  pub reads : Reads (entry_in s) s p forms.entry r
+  pub digits : IfSome r (λ (e : Spanned EntryAt). HexEntry s e.value)
 
 -- ## Every role
 
@@ -63,8 +62,5 @@ header type v =
     must (bytes "expires") date v >>= λ expires.
     Some (record { known = known; version = version; expires = expires })
 
-unfoldable pub view_spec : Spec → Option Bool
-view_spec r = keep r.ok r.known
-
-unfoldable pub view_header : HeaderAt → Option Header
-view_header r = keep r.ok (record { known = r.known; version = r.version; expires = r.expires.seconds })
+unfoldable pub view_header : declared.Header → Header
+view_header r = record { known = r.known; version = r.version; expires = r.expires.seconds }

@@ -23,8 +23,7 @@ use Rattle.canonical_json.specs.Fields.{keep}
 use Rattle.canonical_json.proofs.Rows.{found}
 use Rattle.canonical_json.proofs.Rfc.{to_rfc}
 use Rattle.lookup.specs.Leaves.{copied, Copies}
-use Rattle.lookup.specs.declared.Found.{Found}
-use Rattle.lookup.specs.declared.Found.TheVariants.{At}
+use Rattle.std.specs.declared.option.Option.{Option}
 use Rattle.lookup.proofs.StandsLaws.{there}
 use Rattle.lookup.proofs.StringLaws.{raw-bytes}
 use Rattle.date.specs.Calendar.{form, date_of}
@@ -215,7 +214,7 @@ module _ (n : ℕ) (t : Bytes) where
   unhex-held ok a e h = (kept-is ok a (e ∙ sym (unhex_yes h))).1
 
 -- a place that was found
-pub hex-at : (n : ℕ) (s : Bytes) (r : Found) (i : ℕ) → r ≡ At i → HexAt n s r → is_hex n (raw (drop i s)) ≡ true
+pub hex-at : (n : ℕ) (s : Bytes) (r : Option ℕ) (i : ℕ) → r ≡ Some i → HexAt n s r → is_hex n (raw (drop i s)) ≡ true
 hex-at n s r i q h = rw q at h
 
 -- ## A date

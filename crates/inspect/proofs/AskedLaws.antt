@@ -9,8 +9,6 @@ use Rattle.base.specs.Bytes.{Bytes, bytes}
 use Rattle.canonical_json.specs.Json.{Json, Items, inil, icons}
 use Rattle.canonical_json.specs.Fields.{keep}
 use Rattle.lookup.specs.Place.{Stands, PlaceOf, Finds, Takes}
-use Rattle.lookup.specs.declared.Found.{Found}
-use Rattle.lookup.specs.declared.Found.TheVariants.{Nothing, At}
 use Rattle.rules.specs.Take.{must, each}
 use Rattle.rules.specs.Records.{Entry, Read, refused, says}
 use Rattle.rules.specs.Forms.{Envelope, entry, entries, envelope}
@@ -96,8 +94,8 @@ module _ (file : Bytes) (place : ℕ) (o : Opened) (w : Opens file o (read_envel
             let t = (parsed-exactly file d.value).0 d.text in
             f d.value (record { rest = []; text = t.1; free = tt; valid = t.0 }) e.entries (entries-of d.value e d.form)
 
-    module _ (r : Found) (f : Finds file 0 (must (bytes "signatures") (element_at place)) r) where
-      pub asked-none : r ≡ Nothing → no_entry 15 ≡ entry_at file place
+    module _ (r : Option ℕ) (f : Finds file 0 (must (bytes "signatures") (element_at place)) r) where
+      pub asked-none : r ≡ None → no_entry 15 ≡ entry_at file place
       unfolding the_entry
       asked-none q = said (λ x. no_entry 15 ≡ x) go
         where
@@ -107,12 +105,12 @@ module _ (file : Bytes) (place : ℕ) (o : Opened) (w : Opens file o (read_envel
               let k : nth place es ≡ None = rw n at (entry-nth v es e place) in
               rw k refl
 
-      pub asked-some : (x : ℕ) → r ≡ At x → (ok : Bool) (a : Entry) → Takes file x entry (keep ok a) → (y : EntryAsked) → (ok ≡ true → y ≡ the_entry (Some a)) → y ≡ entry_at file place
+      pub asked-some : (x : ℕ) → r ≡ Some x → (ok : Bool) (a : Entry) → Takes file x entry (keep ok a) → (y : EntryAsked) → (ok ≡ true → y ≡ the_entry (Some a)) → y ≡ entry_at file place
       asked-some x q ok a t y z = said (λ x. y ≡ x) go
         where
           go : (v : Json) → Stands file 0 v → (es : List Entry) → must (bytes "signatures") entries v ≡ Some es → y ≡ the_entry (nth place es)
           go v h es e =
-              let p : PlaceOf file (At x) (must (bytes "signatures") (element_at place) v) = rw q at (f v h) in
+              let p : PlaceOf file (Some x) (must (bytes "signatures") (element_at place) v) = rw q at (f v h) in
               let k : Reads entry (Some p.0) (nth place es) = rw p.1 at (entry-nth v es e place) in
               let h = kept-is ok a (t p.0 p.2 ∙ k.1) in
               z h.0 ∙ ap the_entry (ap Some h.1 ∙ sym k.2)

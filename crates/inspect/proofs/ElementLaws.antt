@@ -10,8 +10,6 @@ use Rattle.canonical_json.specs.Json.{Json, Items, icons}
 use Rattle.canonical_json.specs.Fields.{items, field}
 use Rattle.lookup.specs.Place.{Stands, PlaceOf, Finds}
 use Rattle.lookup.specs.Walk.{ItemsLeft, items-end, items_at, ItemsOf, FirstElement, NextElement}
-use Rattle.lookup.specs.declared.Found.{Found}
-use Rattle.lookup.specs.declared.Found.TheVariants as found
 use Rattle.lookup.specs.declared.Element.{Element}
 use Rattle.lookup.specs.declared.Element.TheVariants.{NoArray, End, At}
 use Rattle.lookup.proofs.ItemLaws.{item-stands}
@@ -50,17 +48,17 @@ module _ (s : Bytes) where
       go (Some xs) l = left-nth n l
 
   module _ (e : Element) (n : ℕ) (o : Option Json) (w : NthLeft s e n o) where
-    pub nth-none : e ≡ NoArray → PlaceOf s found.Nothing o
+    pub nth-none : e ≡ NoArray → PlaceOf s None o
     nth-none q = rw q at w
 
-    pub nth_end : (j : ℕ) → e ≡ End j → PlaceOf s found.Nothing o
+    pub nth_end : (j : ℕ) → e ≡ End j → PlaceOf s None o
     nth_end j q = rw q at w
 
     module _ (i : ℕ) (q : e ≡ At i) where
       here : NthLeft s (At i) n o
       here = rw q at w
 
-      pub nth_here : n ≡ 0 → PlaceOf s (found.At i) o
+      pub nth_here : n ≡ 0 → PlaceOf s (Some i) o
       nth_here z = (here.0, here.3 ∙ nth-now here.0 here.1 n z, item-stands here.2.1)
 
       pub nth-next : (n ≡ 0 → ⊥) → (e' : Element) → NextElement s i e' → NthLeft s e' (n - 1) o
@@ -70,9 +68,9 @@ module _ (s : Bytes) where
 
 -- ## In a member of an object
 
-pub member-at : (s : Bytes) (p : ℕ) (k : Bytes) {r : Found} → Finds s p (field k) r → (x : ℕ) → r ≡ found.At x
-    → (f : Json → Option Json) (r' : Found) → Finds s x f r' → Finds s p (must k f) r'
+pub member-at : (s : Bytes) (p : ℕ) (k : Bytes) {r : Option ℕ} → Finds s p (field k) r → (x : ℕ) → r ≡ Some x
+    → (f : Json → Option Json) (r' : Option ℕ) → Finds s x f r' → Finds s p (must k f) r'
 unfolding must
 member-at s p k w x q f r' t v h =
-    let z : PlaceOf s (found.At x) (field k v) = rw q at (w v h) in
+    let z : PlaceOf s (Some x) (field k v) = rw q at (w v h) in
     rw (on f z.1) (t z.0 z.2)

@@ -18,8 +18,6 @@ use Rattle.canonical_json.specs.Json.{Json, Members}
 use Rattle.canonical_json.specs.Fields.{members, lookup, field, count, keep}
 use Rattle.lookup.specs.Place.{PlaceOf, Finds, Takes}
 use Rattle.lookup.specs.Leaves.{Copies}
-use Rattle.lookup.specs.declared.Found.{Found}
-use Rattle.lookup.specs.declared.Found.TheVariants.{Nothing, At}
 use Rattle.lookup.proofs.StringLaws.{copied-front, copied-length}
 use Rattle.rules.specs.Limits.{max_name, max_names}
 use Rattle.rules.specs.Take.{◌>>=◌, name_of, each_named}
@@ -94,19 +92,19 @@ module _ (s : Bytes) (p : ℕ) (o : Option (List Named)) where
       go None = refl
       go (Some w) = refl
 
-  module _ (r : Found) (b : Bool) (m : IsMissing r b) (w : Finds s p (field (bytes "targets.json")) r) where
+  module _ (r : Option ℕ) (b : Bool) (m : IsMissing r b) (w : Finds s p (field (bytes "targets.json")) r) where
     pub targets_missing : b ≡ true → o ≡ None → Takes s p names o
     unfolding bind
     targets_missing q e v h = let n : field (bytes "targets.json") v ≡ None = go r m (w v h) in e ∙ sym (names-by v ∙ rw n refl)
       where
-        go : (r : Found) → IsMissing r b → PlaceOf s r (field (bytes "targets.json") v) → field (bytes "targets.json") v ≡ None
-        go Nothing m t = t
-        go (At x) m t = never (sym q ∙ m)
+        go : (r : Option ℕ) → IsMissing r b → PlaceOf s r (field (bytes "targets.json") v) → field (bytes "targets.json") v ≡ None
+        go None m t = t
+        go (Some x) m t = never (sym q ∙ m)
 
     pub targets-there : b ≡ false → Takes s p (each_member 1 max_names named) o → Takes s p names o
     unfolding bind
     targets-there q t v h = let z = go r m (w v h) in t v h ∙ sym (names-by v ∙ rw z.1 refl)
       where
-        go : (r : Found) → IsMissing r b → PlaceOf s r (field (bytes "targets.json") v) → (x : Json) × (field (bytes "targets.json") v ≡ Some x)
-        go Nothing m t = never (sym m ∙ q)
-        go (At x) m t = (t.0, t.1)
+        go : (r : Option ℕ) → IsMissing r b → PlaceOf s r (field (bytes "targets.json") v) → (x : Json) × (field (bytes "targets.json") v ≡ Some x)
+        go None m t = never (sym m ∙ q)
+        go (Some x) m t = (t.0, t.1)

@@ -22,7 +22,6 @@ use Rattle.lookup.specs.Place.{Stands, Takes}
 use Rattle.lookup.specs.Walk.{FirstMember, NextMember}
 use Rattle.lookup.specs.Leaves.{order_of}
 use Rattle.lookup.specs.declared.Order.{Order}
-use Rattle.lookup.specs.declared.Found.TheVariants.{Nothing}
 use Rattle.lookup.proofs.StandsLaws.{known-none}
 use Rattle.lookup.proofs.StringLaws.{is_smaller, is_equal, order_less, order_same}
 use Rattle.lookup.specs.declared.Member.{Member}
@@ -94,7 +93,7 @@ module _ (s : Bytes) (i p : ℕ) (r : ImageAt) where
   }
 
 -- the form is broken
-module _ (s : Bytes) (p : ℕ) (r : ImageAt) (o : r.ok ≡ false) (e : r.end ≡ Nothing) where
+module _ (s : Bytes) (p : ℕ) (r : ImageAt) (o : r.ok ≡ false) (e : r.end ≡ None) where
   no-digits : r.ok ≡ true → is_hex digest_size (raw (drop r.digest s)) ≡ true
   no-digits q = never (sym q ∙ o)
 

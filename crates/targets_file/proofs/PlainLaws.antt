@@ -18,13 +18,12 @@ use Rattle.canonical_json.specs.Json.{num, put, put_bytes, Valid, valid_num, max
 use Rattle.canonical_json.specs.Read.{Got, bad, got, end_of, number, read, raw}
 use Rattle.canonical_json.specs.Fields as fields
 use Rattle.canonical_json.specs.Fields.{field, members, lookup, text, keep}
-use Rattle.canonical_json.specs.declared.Skip.TheVariants.{End}
+use Rattle.std.specs.declared.option.Option.TheVariants.{None, Some}
 use Rattle.canonical_json.proofs.Says.{says_of}
 use Rattle.canonical_json.proofs.NumberLaws.{number_sound}
 use Rattle.canonical_json.proofs.Puts.{put-num}
 use Rattle.canonical_json.proofs.Rfc.{to_rfc}
 use Rattle.canonical_json.proofs.Complete.{complete-object}
-use Rattle.lookup.specs.declared.Found.TheVariants.{At}
 use Rattle.lookup.specs.Leaves.{number_in}
 use Rattle.lookup.proofs.NumberLaws.{number_of}
 use Rattle.lookup.proofs.StandsLaws.{known_as, takes_of, ends_of}
@@ -50,10 +49,10 @@ some-digit : (ds : Bytes) → valid_num false ds ≡ true → 0 < length ds
 some-digit [] v = never (sym v)
 some-digit (b ∷ ds) v = omega arith
 
-written : (s : Bytes) (p e : ℕ) → End e ≡ end_of (length s) (number false (drop p s)) → Written s p e
+written : (s : Bytes) (p e : ℕ) → Some e ≡ end_of (length s) (number false (drop p s)) → Written s p e
 written s p e x = go (number false (drop p s)) refl x
   where
-    go : (g : Got Bytes) → number false (drop p s) ≡ g → End e ≡ end_of (length s) g → Written s p e
+    go : (g : Got Bytes) → number false (drop p s) ≡ g → Some e ≡ end_of (length s) g → Written s p e
     go bad k x = let z : ◌≡◌ {A = ℕ} 0 1 = cc in absurd (omega arith)
     go (got ds q) k x =
         let w = says_of (rw k at (number_sound false (drop p s))) in
@@ -68,8 +67,8 @@ written s p e x = go (number false (drop p s)) refl x
           after = omega arith;
         }
 
-pub plain-length : (s : Bytes) (i p e : ℕ) (r : ImageAt) → End e ≡ end_of (length s) (number false (drop p s)) → e < length s → get_or s e 0 ≡ code "}"
-    → r.digest ≡ i → r.end ≡ At (e + 1) → Some r.length ≡ number_in 0 max_length (drop p s) → PlainLength s i p r
+pub plain-length : (s : Bytes) (i p e : ℕ) (r : ImageAt) → Some e ≡ end_of (length s) (number false (drop p s)) → e < length s → get_or s e 0 ≡ code "}"
+    → r.digest ≡ i → r.end ≡ Some (e + 1) → Some r.length ≡ number_in 0 max_length (drop p s) → PlainLength s i p r
 unfolding Valid
 plain-length s i p e r x h b d n k =
     let w = written s p e x in

@@ -13,8 +13,6 @@ use Rattle.canonical_json.specs.Read.{raw}
 use Rattle.canonical_json.specs.Fields.{members, keep}
 use Rattle.lookup.specs.Place.{Stands, PlaceOf, Finds, Takes}
 use Rattle.lookup.specs.Walk.{MembersLeft, members-end, members-at, MembersOf, FirstMember, NextMember}
-use Rattle.lookup.specs.declared.Found.{Found}
-use Rattle.lookup.specs.declared.Found.TheVariants as found
 use Rattle.lookup.specs.declared.Member.{Member}
 use Rattle.lookup.specs.declared.Member.TheVariants.{NoObject, End, At}
 use Rattle.lookup.proofs.MemberLaws.{member-stands, member-name}
@@ -33,7 +31,7 @@ not-over (members-end {e = e} t) q n v k = absurd (q e refl)
 not-over (members-at t u g) q n v k = refl
 
 module _ (s : Bytes) (p : ℕ) (k : Bytes) {m : Member} (w : FirstMember s p m) where
-  pub only_none : m ≡ NoObject → Finds s p (only k) found.Nothing
+  pub only_none : m ≡ NoObject → Finds s p (only k) None
   unfolding only bind
   only_none q v h = go (members v) (w.means v h)
     where
@@ -45,7 +43,7 @@ module _ (s : Bytes) (p : ℕ) (k : Bytes) {m : Member} (w : FirstMember s p m) 
       go None e = refl
       go (Some ms) l = left l q
 
-  pub only_end : (e : ℕ) → m ≡ End e → Finds s p (only k) found.Nothing
+  pub only_end : (e : ℕ) → m ≡ End e → Finds s p (only k) None
   unfolding only bind single
   only_end e q v h = go (members v) (w.means v h)
     where
@@ -70,7 +68,7 @@ module _ (s : Bytes) (p : ℕ) (k : Bytes) {m : Member} (w : FirstMember s p m) 
     named : {rest : Bytes} (n : Bytes) (v : Json) (ms : Members) → MembersLeft s rest (At i j) (mcons n v ms) → (b : Bool) → b ≡ same (raw (drop i s)) k → same n k ≡ b
     named n v ms l b e = ap (λ (x : Bytes). same x k) (sym (member-name l)) ∙ sym e
 
-    pub only-other : false ≡ same (raw (drop i s)) k → Finds s p (only k) found.Nothing
+    pub only-other : false ≡ same (raw (drop i s)) k → Finds s p (only k) None
     unfolding single keep
     only-other e = by_first (λ o. o ≡ None) (λ rest n v ms l. go n v ms (named n v ms l false e))
       where
@@ -79,13 +77,13 @@ module _ (s : Bytes) (p : ℕ) (k : Bytes) {m : Member} (w : FirstMember s p m) 
         go n v (mcons m x ms) e = refl
 
     module _ {x : Member} (d : NextMember s j x) where
-      pub only-more : ((e : ℕ) → x ≡ End e → ⊥) → Finds s p (only k) found.Nothing
+      pub only-more : ((e : ℕ) → x ≡ End e → ⊥) → Finds s p (only k) None
       only-more e = by_first (λ o. o ≡ None) (λ rest n v ms l. not-over (d.means i n v ms l) e n v k)
 
-      pub only_one : true ≡ same (raw (drop i s)) k → (e : ℕ) → x ≡ End e → Finds s p (only k) (found.At j)
+      pub only_one : true ≡ same (raw (drop i s)) k → (e : ℕ) → x ≡ End e → Finds s p (only k) (Some j)
       unfolding single keep
       only_one t e q =
-          by_first (λ o. PlaceOf s (found.At j) o)
+          by_first (λ o. PlaceOf s (Some j) o)
           (λ rest n v ms l. (v, rw (over (d.means i n v ms l) q, named n v ms l true t) refl, member-stands l))
 
 -- what is read in it
@@ -97,9 +95,9 @@ sole-only k f v = go (members v)
     go None = refl
     go (Some ms) = refl
 
-module _ {A : Type 0} (s : Bytes) (p : ℕ) (k : Bytes) (r : Found) (w : Finds s p (only k) r) (f : Json → Option A) (o : Option A) where
-  pub sole_none : r ≡ found.Nothing → o ≡ None → Takes s p (sole k f) o
+module _ {A : Type 0} (s : Bytes) (p : ℕ) (k : Bytes) (r : Option ℕ) (w : Finds s p (only k) r) (f : Json → Option A) (o : Option A) where
+  pub sole_none : r ≡ None → o ≡ None → Takes s p (sole k f) o
   sole_none q e v h = let n : only k v ≡ None = rw q at (w v h) in e ∙ sym (sole-only k f v ∙ stop f n)
 
-  pub sole-at : (x : ℕ) → r ≡ found.At x → Takes s x f o → Takes s p (sole k f) o
-  sole-at x q t v h = let z : PlaceOf s (found.At x) (only k v) = rw q at (w v h) in t z.0 z.2 ∙ sym (sole-only k f v ∙ on f z.1)
+  pub sole-at : (x : ℕ) → r ≡ Some x → Takes s x f o → Takes s p (sole k f) o
+  sole-at x q t v h = let z : PlaceOf s (Some x) (only k v) = rw q at (w v h) in t z.0 z.2 ∙ sym (sole-only k f v ∙ on f z.1)

@@ -42,7 +42,7 @@ fn sole_listed(s: &[u8], at: usize) -> ListedAt
                     return ListedAt {
                         ok: said.ok,
                         listed,
-                        end: Found::At(e),
+                        end: Some(e),
                     };
                 }
                 Member::At { name: _, value: _ } => {
@@ -54,14 +54,14 @@ fn sole_listed(s: &[u8], at: usize) -> ListedAt
 }
 
 // "meta" with the one name `snapshot.json`.
-fn meta_listed(s: &[u8], found: Found) -> ListedAt
+fn meta_listed(s: &[u8], found: Option<usize>) -> ListedAt
     ensures { TakesMust s.now found (sole (bytes "snapshot.json") listed) (view_listed_at result) × FoundEnd s.now found result.end }
 {
     match found {
-        Found::Nothing => {
+        None => {
             return forms::no_listed();
         }
-        Found::At(x) => {
+        Some(x) => {
             return sole_listed(s, x);
         }
     }
