@@ -15,12 +15,13 @@ use Rattle.base.specs.Hex.{undo}
 use Rattle.canonical_json.specs.Json.{Json, Items, inil, icons}
 use Rattle.canonical_json.specs.Read.{raw}
 use Rattle.canonical_json.specs.Fields.{items, size, keep}
-use Rattle.lookup.specs.Place.{Takes}
+use Rattle.lookup.specs.Place.{Takes, Reads}
 use Rattle.rules.specs.Limits.{max_entries, key_size, signature_size}
 use Rattle.rules.specs.Take.{◌>>=◌, must, hex, each}
 use Rattle.rules.specs.Records.{Entry}
 use Rattle.rules.specs.Forms.{entry, entries}
 use Rattle.rules.specs.Reading.{keyids_of}
+use Rattle.records.specs.View.{view_entries}
 use Rattle.forms.specs.Each.{each_item}
 use Rattle.envelope.specs.Header.{keyid_of, keyids, entry_in, ReadsEntry}
 use Rattle.envelope.specs.declared.EntryAt.{EntryAt}
@@ -81,3 +82,7 @@ keyids-each v = go (items v)
         ≡ (o >>= λ xs. keep (leb 0 (size xs) && leb (size xs) max_entries) xs >>= each keyid_of)
     go None = refl
     go (Some xs) = rw (le-leb 0 (size xs) (omega arith)) (kept (leb (size xs) max_entries) xs)
+
+-- no entries, where the form is broken
+pub broken-entries : (s : Bytes) (p : ℕ) → Takes s p (each_item 0 max_entries keyid_of) None → Reads view_entries s p keyids None
+broken-entries s p t = record { means = λ v h. t v h ∙ sym (keyids-each v); end = tt }

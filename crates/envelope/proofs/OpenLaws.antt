@@ -111,35 +111,24 @@ module _ (file : Bytes) where
   pub opens_unsigned : Takes file 0 (must (bytes "signatures") keyids) None → Unfolds file None
   opens_unsigned t = broken (λ v h. no-keyids v (t v h))
 
-  module _ (f : Option ℕ) (w : FindsMember file 0 (bytes "signed") f) where
-    pub opens-nothing : f ≡ None → Unfolds file None
-    opens-nothing q = broken (λ v h. no_signed v (rw q at (w.means v h)))
+  pub opens-nothing : FindsMember file 0 (bytes "signed") None → Unfolds file None
+  opens-nothing w = broken (λ v h. no_signed v (w.means v h))
 
-    module _ (start : ℕ) (q : f ≡ Some start) (v : Json) (h : Stands file 0 v) where
-      signed : PlaceOf file (Some start) (field (bytes "signed") v)
-      signed = rw q at (w.means v h)
+  module _ (start : ℕ) (w : FindsMember file 0 (bytes "signed") (Some start)) where
+    place : (v : Json) → Stands file 0 v → Some start ≡ (members v >>= place_of (bytes "signed"))
+    unfolding place_of
+    place v h = w.place v h
 
-      place : Some start ≡ (members v >>= place_of (bytes "signed"))
-      unfolding place_of
-      place = rw q at (w.place v h)
+    pub opens_scalar : Takes file start object None → Unfolds file None
+    opens_scalar o = broken (λ v h. let signed = w.means v h in signed-other v signed.0 start signed.1 (place v h) (o signed.0 signed.2))
 
-      scalar : Takes file start object None → None ≡ envelope v
-      scalar o = signed-other v signed.0 start signed.1 place (o signed.0 signed.2)
-
-      whole : Takes file start object (Some tt) → (r : Opened) → r.start ≡ start → Some (view_entries r.entries) ≡ must (bytes "signatures") keyids v
-          → EnvelopeOf file (Some r) (envelope v)
-      whole o r a t =
-          let es = entries-there v (view_entries r.entries) t in
-          rw (← signed-object v signed.0 start signed.1 place (o signed.0 signed.2) es.0 es.1)
-          (r, refl, record { start = a; size = refl; keyids = es.2; stands = moved a signed.2 })
-
-    module _ (start : ℕ) (q : f ≡ Some start) where
-      pub opens_scalar : Takes file start object None → Unfolds file None
-      opens_scalar o = broken (λ v h. scalar start q v h o)
-
-      pub opens-all : Takes file start object (Some tt) → (r : Opened) → r.start ≡ start → Takes file 0 (must (bytes "signatures") keyids) (Some (view_entries r.entries))
-          → Unfolds file (Some r)
-      opens-all o r a t v h = whole start q v h o r a (t v h)
+    pub opens-all : Takes file start object (Some tt) → (r : Opened) → r.start ≡ start → Takes file 0 (must (bytes "signatures") keyids) (Some (view_entries r.entries))
+        → Unfolds file (Some r)
+    opens-all o r a t v h =
+        let signed = w.means v h in
+        let es = entries-there v (view_entries r.entries) (t v h) in
+        rw (← signed-object v signed.0 start signed.1 (place v h) (o signed.0 signed.2) es.0 es.1)
+        (r, refl, record { start = a; size = refl; keyids = es.2; stands = moved a signed.2 })
 
 -- ## The file
 
