@@ -1,5 +1,5 @@
 -- Opening a file, step by step: refusals 1 to 3, the signed part and the keyids.
-use mathlib.Core.Path.{◌≡◌, refl, sym, ◌∙◌}
+use mathlib.Core.Path.{◌≡◌, refl, sym, ap, ◌∙◌}
 use Rattle.std.specs.declared.option.Option.{Option}
 use Rattle.std.specs.declared.option.Option.TheVariants.{None, Some}
 use Rattle.canonical_json.specs.Options.{bind}
@@ -7,7 +7,8 @@ use mathlib.Core.List.{List, []}
 use Prim.Native.Nat.{ℕ, ◌<◌, ◌≤◌}
 use lib.ListN.{length}
 use borrow.Author.Tests.{le-leb, lt-leb}
-use Rattle.std.specs.declared.result.Result.TheVariants.{Err}
+use Rattle.std.specs.declared.result.Result.{Result}
+use Rattle.std.specs.declared.result.Result.TheVariants.{Ok, Err}
 use Rattle.std.specs.Option.{ok_or}
 use Rattle.base.specs.Bytes.{Bytes, bytes}
 use Rattle.canonical_json.specs.Json.{Json, Members, put, Canonical, max_depth}
@@ -15,7 +16,8 @@ use Rattle.canonical_json.specs.Fields.{members, lookup, field, place_of}
 use Rattle.lookup.specs.Place.{Stands, PlaceOf, Takes, FindsMember}
 use Rattle.rules.specs.Limits.{max_file}
 use Rattle.rules.specs.Take.{◌>>=◌, must}
-use Rattle.rules.specs.Records.{Entry}
+use Rattle.base.proofs.TestLaws.{never}
+use Rattle.rules.specs.Records.{Entry, Read, refused, says}
 use Rattle.rules.specs.Forms.{Envelope, entries, envelope}
 use Rattle.rules.specs.Reading.{parsed, judged_text, read_with, keyids_of, opened, read_envelope}
 use Rattle.rules.proofs.OptionLaws.{none-not-some, some_is}
@@ -23,7 +25,8 @@ use Rattle.rules.proofs.ReadingLaws.{parsed-exactly}
 use Rattle.records.specs.View.{view_entries}
 use Rattle.forms.proofs.StepLaws.{stop}
 use Rattle.envelope.specs.Header.{keyids}
-use Rattle.envelope.specs.Open.{object, EnvelopeOf, Unfolds, Opens}
+use Rattle.envelope.specs.Open.{object, IsOpen, EnvelopeOf, Unfolds, view_fault, Opens}
+use Rattle.envelope.specs.declared.Fault.{Fault}
 use Rattle.envelope.specs.declared.Fault.TheVariants.{TooLong, NotText, BadForm}
 use Rattle.envelope.specs.declared.Opened.{Opened}
 
@@ -165,3 +168,31 @@ module _ (file : Bytes) where
           go : (o : Option Opened) (e : Option Envelope) → EnvelopeOf file o e → Opens file (ok_or o BadForm) (opened e)
           go o None q = rw q (BadForm, refl, refl)
           go o (Some e) q = rw q.1 (q.0, refl, q.2)
+
+-- ## What the result says
+
+fault_is : {f g : Fault} → Path (Result Opened Fault) (Err f) (Err g) → f ≡ g
+fault_is e = cc
+
+opened_is : {o p : Opened} → Path (Result Opened Fault) (Ok o) (Ok p) → o ≡ p
+opened_is e = cc
+
+ok-not-err : {X : Type 0} {o : Opened} {f : Fault} → Path (Result Opened Fault) (Ok o) (Err f) → X
+ok-not-err e = never (cc)
+
+module _ (file : Bytes) where
+  -- the file is refused
+  pub opened-refused : (f : Fault) → Opens file (Err f) (read_envelope file) → read_envelope file ≡ refused (view_fault f)
+  opened-refused f w = go (read_envelope file) w
+    where
+      go : (x : Read Envelope) → Opens file (Err f) x → x ≡ refused (view_fault f)
+      go (refused g) q = rw (← q.2) (ap (λ (y : Fault). refused (view_fault y)) (sym (fault_is q.1)))
+      go (says e ks) q = ok-not-err (sym q.1)
+
+  -- the envelope that was opened
+  pub opened-says : (o : Opened) → Opens file (Ok o) (read_envelope file) → (e : Envelope) × (ks : List Bytes) × (read_envelope file ≡ says e ks) × IsOpen file o e
+  opened-says o w = go (read_envelope file) w
+    where
+      go : (x : Read Envelope) → Opens file (Ok o) x → (e : Envelope) × (ks : List Bytes) × (x ≡ says e ks) × IsOpen file o e
+      go (refused f) q = ok-not-err q.1
+      go (says e ks) q = (e, ks, refl, rw (opened_is q.1) q.2)

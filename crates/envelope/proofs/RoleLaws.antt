@@ -14,7 +14,6 @@ use lib.ListN.{length}
 use Rattle.std.specs.declared.result.Result.{Result}
 use Rattle.std.specs.declared.result.Result.TheVariants.{Ok, Err}
 use Rattle.base.specs.Bytes.{Bytes}
-use Rattle.base.proofs.TestLaws.{never}
 use Rattle.canonical_json.specs.Json.{Json}
 use Rattle.lookup.specs.Place.{Takes, Tests}
 use Rattle.rules.specs.Limits.{max_file}
@@ -29,18 +28,8 @@ use Rattle.envelope.specs.declared.Fault.{Fault}
 use Rattle.envelope.specs.declared.Fault.TheVariants.{BadForm, OtherKeyid, OtherSpec}
 use Rattle.envelope.specs.declared.Signed.{Signed}
 use Rattle.envelope.specs.declared.Opened.{Opened}
+use Rattle.envelope.proofs.OpenLaws.{opened-refused, opened-says}
 use Rattle.envelope.proofs.HeaderLaws.{file, no-file, no_body, file-by}
-
--- ## Results
-
-fault_is : {f g : Fault} → Path (Result Opened Fault) (Err f) (Err g) → f ≡ g
-fault_is e = cc
-
-opened_is : {o p : Opened} → Path (Result Opened Fault) (Ok o) (Ok p) → o ≡ p
-opened_is e = cc
-
-ok-not-err : {X : Type 0} {o : Opened} {f : Fault} → Path (Result Opened Fault) (Ok o) (Err f) → X
-ok-not-err e = never (cc)
 
 -- ## From the envelope, the header and a body to what the file says
 
@@ -80,22 +69,13 @@ module _ {A : Type 0} (type : Bytes) (body : Json → Option A) (keyids : Json �
     -- the file is refused
     pub refused_as : (f : Fault) → Opens bytes (Err f) (read_envelope bytes) → read_as type body keyids bytes ≡ refused (view_fault f)
     unfolding after
-    refused_as f w = by-envelope bytes ∙ go (read_envelope bytes) w
-      where
-        go : (e : Read Envelope) → Opens bytes (Err f) e → after e ≡ refused (view_fault f)
-        go (refused g) q = rw (← q.2) (ap (λ (x : Fault). refused (view_fault x)) (sym (fault_is q.1)))
-        go (says e ks) q = ok-not-err (sym q.1)
+    refused_as f w = by-envelope bytes ∙ rw (opened-refused bytes f w) refl
 
     module _ (o : Opened) (w : Opens bytes (Ok o) (read_envelope bytes)) where
       -- the envelope that was opened
       pub open_as : (e : Envelope) × IsOpen bytes o e × (read_as type body keyids bytes ≡ spoken e (keyids e.signed) (file_of type body e.signed))
       unfolding after
-      open_as = go (read_envelope bytes) w (by-envelope bytes)
-        where
-          go : (e : Read Envelope) → Opens bytes (Ok o) e → read_as type body keyids bytes ≡ after e
-              → (e : Envelope) × IsOpen bytes o e × (read_as type body keyids bytes ≡ spoken e (keyids e.signed) (file_of type body e.signed))
-          go (refused f) q i = ok-not-err q.1
-          go (says e ks) q i = (e, rw (opened_is q.1) q.2, i)
+      open_as = let s = opened-says bytes o w in (s.0, s.3, by-envelope bytes ∙ rw s.2 refl)
 
       lacks-header : Takes bytes o.start (header type) None → read_as type body keyids bytes ≡ refused bad_form
       unfolding spoken
