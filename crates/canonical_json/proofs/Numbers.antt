@@ -17,9 +17,9 @@ module _ (s : Bytes) (i : ℕ) where
   unfolding number
   over neg h = rw (at-end s i h)
 
-  pub minus-zero : (neg : Bool) → i < length s → get_or s i 0 ≡ 48 → neg ≡ true → end_of (length s) (number neg (drop i s)) ≡ None
+  pub minus_zero : (neg : Bool) → i < length s → get_or s i 0 ≡ 48 → neg ≡ true → end_of (length s) (number neg (drop i s)) ≡ None
   unfolding number
-  minus-zero neg h e f = rw (at-cons s i h, eq-eqb (get_or s i 0) 48 e, f)
+  minus_zero neg h e f = rw (at-cons s i h, eq-eqb (get_or s i 0) 48 e, f)
 
   pub is_zero : (neg : Bool) → i < length s → get_or s i 0 ≡ 48 → neg ≡ false → end_of (length s) (number neg (drop i s)) ≡ Some (i + 1)
   unfolding number

@@ -17,8 +17,7 @@ returns-then-b-eq92 c =
 pub returns-then-b-lt32 : goal.returns-then-b-lt32
 returns-then-b-lt32 c =
     let a = c.args in
-    let s = a.s.now in
-    strings.control s a.i c.requires.0 c.requires.1 c.if-b-eq92.false (omega arith)
+    strings.control a.s.now a.i c.requires.0 c.requires.1 c.if-b-eq92.false (omega arith)
 
 pub returns-then-b-lt128 : goal.returns-then-b-lt128
 returns-then-b-lt128 c =
@@ -27,16 +26,15 @@ returns-then-b-lt128 c =
     let h : get_or s a.i 0 < 128 = c.if-b-lt128.true in
     (strings.plain s a.i c.requires.0 c.requires.1 c.if-b-eq92.false c.if-b-lt32.false (omega arith), omega arith)
 
-pub returns-in-None : goal.returns-in-None
-returns-in-None c =
+pub returns-in_err-more : goal.returns-in_err-more
+returns-in_err-more c =
     let a = c.args in
-    let s = a.s.now in
-    strings.no_lead s a.i c.requires.0 c.requires.1 c.if-b-eq92.false (sym c.lead.ensures ∙ c.in-None.is)
+    rw c.from_residual.ensures (strings.no_lead a.s.now a.i c.requires.0 c.requires.1 c.if-b-eq92.false (sym c.in_err-more.ensures))
 
-pub returns-in-Some : goal.returns-in-Some
-returns-in-Some c =
+pub returns : goal.returns
+returns c =
     let a = c.args in
     let s = a.s.now in
-    let w = c.in-Some.field-0 in
+    let w = c.in_ok-more.field-0 in
     strings.skips_from s (read_str (drop a.i s)) (chars (drop (a.i + 1) s) w.more w.lo w.hi) (a.i + 1) c.tail_end.result
-    (strings.begun s a.i c.requires.0 c.requires.1 c.if-b-eq92.false w.more w.lo w.hi (sym c.lead.ensures ∙ c.in-Some.is)) c.tail_end.ensures
+    (strings.begun s a.i c.requires.0 c.requires.1 c.if-b-eq92.false w.more w.lo w.hi (sym c.in_ok-more.ensures)) c.tail_end.ensures

@@ -1,29 +1,29 @@
-use mathlib.Core.Path.{◌∙◌}
+use mathlib.Core.Path.{◌≡◌, ◌∙◌}
+use mathlib.Core.Logic.{inl, inr}
+use Prim.Native.Nat.{◌+◌, ◌-◌}
 use native.Mathlib.Omega.{arith}
 use Rattle.canonical_json.proofs.Chars as strings
 use Rattle.canonical_json.proofs.tail_end.Goals as goal
+use Rattle.canonical_json.proofs.tail_end.Goals.{then-s-i-2-via-then-s-i-2, then-s-i-2-via-else-s-i-2+then-high-s}
 
 pub returns-then-s-i : goal.returns-then-s-i
 returns-then-s-i c =
-    let s = c.args.s.now in
-    c.loop-left.invariant.0 ∙ strings.over s c.loop-left.i c.loop-left.left c.loop-left.low c.loop-left.high c.if-s-i.true
+    let l = c.loop in
+    l.invariant.0 ∙ strings.over c.args.s.now l.i (c.args.more - l.counter) l.low l.high c.if-s-i.true
 
-pub returns-then-b-low : goal.returns-then-b-low
-returns-then-b-low c =
-    let s = c.args.s.now in
-    c.loop-left.invariant.0 ∙ strings.low s c.loop-left.i c.if-s-i.false c.loop-left.left c.loop-left.low c.loop-left.high c.loop-left-test.true c.if-b-low.true
+pub returns-then-s-i-2 : goal.returns-then-s-i-2
+returns-then-s-i-2 c =
+    let l = c.loop in
+    l.invariant.0 ∙ strings.outside c.args.s.now l.i c.if-s-i.false (c.args.more - l.counter) l.low l.high (omega arith)
+    (elim c.then-s-i-2.branch [ then-s-i-2-via-then-s-i-2 w ↦ inl w.if-s-i-2.true | then-s-i-2-via-else-s-i-2+then-high-s w ↦ inr w.if-high-s.true ])
 
-pub returns-then-high-b : goal.returns-then-high-b
-returns-then-high-b c =
-    let s = c.args.s.now in
-    c.loop-left.invariant.0 ∙ strings.high s c.loop-left.i c.if-s-i.false c.loop-left.left c.loop-left.low c.loop-left.high c.loop-left-test.true c.if-b-low.false c.if-high-b.true
-
-pub loop-left-preserved : goal.loop-left-preserved
-loop-left-preserved c =
-    let s = c.args.s.now in
-    (c.loop-left.invariant.0 ∙ strings.onward s c.loop-left.i c.if-s-i.false c.loop-left.left c.loop-left.low c.loop-left.high c.loop-left-test.true c.if-b-low.false c.if-high-b.false, omega arith)
+pub loop-preserved : goal.loop-preserved
+loop-preserved c =
+    let l = c.loop in
+    let e : c.args.more - l.counter - 1 ≡ c.args.more - (l.counter + 1) = omega arith in
+    (l.invariant.0 ∙ rw e at (strings.onward c.args.s.now l.i c.if-s-i.false (c.args.more - l.counter) l.low l.high (omega arith) c.if-s-i-2.false c.if-high-s.false), omega arith)
 
 pub returns : goal.returns
 returns c =
-    let s = c.args.s.now in
-    (c.loop-left.invariant.0 ∙ strings.spent s c.loop-left.i c.loop-left.left c.loop-left.low c.loop-left.high (omega arith), c.loop-left.invariant.1)
+    let l = c.loop in
+    (l.invariant.0 ∙ strings.spent c.args.s.now l.i (c.args.more - l.counter) l.low l.high (omega arith), l.invariant.1)
