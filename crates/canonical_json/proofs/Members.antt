@@ -50,9 +50,9 @@ module _ (rd : Bytes → Got Json) (p : Option (Bytes)) where
     unfolding member
     over h = rw (at-end s i h)
 
-    pub no-quote : i < length s → (get_or s i 0 ≡ 34 → ⊥) → end_of (length s) (member rd p (drop i s)) ≡ None
+    pub no_quote : i < length s → (get_or s i 0 ≡ 34 → ⊥) → end_of (length s) (member rd p (drop i s)) ≡ None
     unfolding member
-    no-quote h e = rw (at-cons s i h, ne_eqb (get_or s i 0) 34 e)
+    no_quote h e = rw (at-cons s i h, ne_eqb (get_or s i 0) 34 e)
 
     module _ (h : i < length s) (q : get_or s i 0 ≡ 34) where
       pub no_name : end_of (length s) (read_str (drop (i + 1) s)) ≡ None → end_of (length s) (member rd p (drop i s)) ≡ None
@@ -74,13 +74,13 @@ module _ (rd : Bytes → Got Json) (p : Option (Bytes)) where
         unfolding member
         cut o f = let g : rises p name.value ≡ true = rw is-raw at f in rw (at-cons s i h, q, name.is, g, at-end s e o)
 
-        pub no-colon : e < length s → (get_or s e 0 ≡ 58 → ⊥) → rises p (raw (drop (i + 1) s)) ≡ true → end_of (length s) (member rd p (drop i s)) ≡ None
+        pub no_colon : e < length s → (get_or s e 0 ≡ 58 → ⊥) → rises p (raw (drop (i + 1) s)) ≡ true → end_of (length s) (member rd p (drop i s)) ≡ None
         unfolding member
-        no-colon o k f = let g : rises p name.value ≡ true = rw is-raw at f in rw (at-cons s i h, q, name.is, g, at-cons s e o, ne_eqb (get_or s e 0) 58 k)
+        no_colon o k f = let g : rises p name.value ≡ true = rw is-raw at f in rw (at-cons s i h, q, name.is, g, at-cons s e o, ne_eqb (get_or s e 0) 58 k)
 
-        pub then-value : e < length s → get_or s e 0 ≡ 58 → rises p (raw (drop (i + 1) s)) ≡ true → end_of (length s) (member rd p (drop i s)) ≡ end_of (length s) (rd (drop (e + 1) s))
+        pub then_value : e < length s → get_or s e 0 ≡ 58 → rises p (raw (drop (i + 1) s)) ≡ true → end_of (length s) (member rd p (drop i s)) ≡ end_of (length s) (rd (drop (e + 1) s))
         unfolding member
-        then-value o k f =
+        then_value o k f =
             let g : rises p name.value ≡ true = rw is-raw at f in
             rw (at-cons s i h, q, name.is, g, at-cons s e o, k) (ends-also (length s) (λ (x : Json). (name.value, x)) (rd (drop (e + 1) s)))
 

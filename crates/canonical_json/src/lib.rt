@@ -316,6 +316,7 @@ fn in_order(s: &[u8], last: Option<usize>, k: usize) -> bool
 
 // The value at `at`; objects and arrays may hold one another `depth` deep.
 #[cycle(array_object_pair_value)]
+#[tactic(auto, using(crate::proofs::Values::over, crate::proofs::Values::other, crate::proofs::Values::text, crate::proofs::Values::minus, crate::proofs::Values::digit, crate::proofs::Values::is_true, crate::proofs::Values::is_false, crate::proofs::Values::is_null, crate::proofs::Values::deep_array, crate::proofs::Values::deep_object, crate::proofs::Values::in_array, crate::proofs::Values::in_object))]
 pub fn value(s: &[u8], at: usize, depth: u8) -> Option<usize>
     ensures { result ≡ end_of (length s.now) (read depth (drop at s.now)) }
 {
@@ -364,6 +365,7 @@ pub fn array(s: &[u8], at: usize, depth: u8) -> Option<usize>
 
 // The member at i, whose name must follow the one before.
 #[cycle(array_object_pair_value)]
+#[tactic(auto, using(crate::proofs::Members::over, crate::proofs::Members::no_quote, crate::proofs::Members::no_name, crate::proofs::Members::disorder, crate::proofs::Members::cut, crate::proofs::Members::no_colon, crate::proofs::Members::then_value))]
 fn pair(s: &[u8], i: usize, last: Option<usize>, depth: u8) -> Option<usize>
     ensures { result ≡ end_of (length s.now) (member_of (read depth) (last_of s.now last) (drop i s.now)) }
 {
@@ -418,6 +420,7 @@ pub fn object(s: &[u8], at: usize, depth: u8) -> Option<usize>
 }
 
 // Whether the text is canonical.
+#[tactic(auto, using(crate::proofs::Canonical::verdict_no, crate::proofs::Canonical::verdict_end))]
 pub fn is_canonical(s: &[u8]) -> bool
     ensures { (result ≡ true) ↔ Canonical max_depth s.now }
 {
