@@ -3,9 +3,9 @@ use mathlib.Core.Path.{◌≡◌, refl, sym, ◌∙◌}
 use mathlib.Core.List.{[], ◌∷◌}
 use mathlib.Core.Logic.{◌⊎◌, inl, inr}
 use mathlib.Core.Bool.{true, ◌||◌, and-false}
-use Prim.Native.Nat.{ℕ, zero, suc, ◌≤◌, ◌<◌, ◌+◌, ◌-◌}
+use Prim.Native.Nat.{ℕ, zero, suc, ◌≤◌, ◌<◌, ◌+◌}
 use native.Mathlib.Omega.{arith}
-use native.Mathlib.Numerals.{sub-one}
+use native.Mathlib.Numerals.{add-one}
 use lib.ListN.{length, drop, get_or}
 use lib.Dec.{eqb, leb}
 use borrow.Author.Tests.{ne_eqb, le-leb, lt-leb}
@@ -93,9 +93,8 @@ module _ (s : Bytes) (i : ℕ) where
 
 -- inside a character, of which m bytes are to come
 module _ (s : Bytes) (i : ℕ) (h : i < length s) where
-  pub onward : (m lo hi : ℕ) → 0 < m → lo ≤ get_or s i 0 → get_or s i 0 ≤ hi → end_of (length s) (chars (drop i s) m lo hi) ≡ end_of (length s) (chars (drop (i + 1) s) (m - 1) 128 191)
-  onward zero lo hi z f g = absurd (omega arith)
-  onward (suc m) lo hi z f g = rw (at-cons s i h, chars-more, le-leb lo (get_or s i 0) f, le-leb (get_or s i 0) hi g, sub-one) (grown (length s) (get_or s i 0) (chars (drop (i + 1) s) m 128 191))
+  pub onward : (m n lo hi : ℕ) → m ≡ n + 1 → lo ≤ get_or s i 0 → get_or s i 0 ≤ hi → end_of (length s) (chars (drop i s) m lo hi) ≡ end_of (length s) (chars (drop (i + 1) s) n 128 191)
+  onward m n lo hi z f g = rw (z, add-one, at-cons s i h, chars-more, le-leb lo (get_or s i 0) f, le-leb (get_or s i 0) hi g) (grown (length s) (get_or s i 0) (chars (drop (i + 1) s) n 128 191))
 
   pub outside : (m lo hi : ℕ) → 0 < m → (get_or s i 0 < lo) ⊎ (hi < get_or s i 0) → end_of (length s) (chars (drop i s) m lo hi) ≡ None
   outside zero lo hi z f = absurd (omega arith)

@@ -2,7 +2,8 @@
 #![tactic(auto)]
 
 ghost use Rattle.std.specs.Prelude.{◌≡◌, true, ◌↔◌, ◌+◌, ◌≤◌, ◌<◌, length, drop, get_or};
-ghost use Rattle.base.specs.Bytes.{less};
+ghost use Rattle.std.specs.List.{prefix_len};
+ghost use Rattle.base.specs.Bytes.{less, is_digit};
 ghost use Rattle.canonical_json.specs.Lead.{seq, lead_of};
 ghost use Rattle.canonical_json.specs.Read.{end_of, chars, esc, read_str, kind_of, word as word_of, number as number_of, digits as digits_of, array as array_of, object as object_of, member as member_of, rises, read, raw};
 ghost use Rattle.canonical_json.specs.Strings.{Skips, plain, PlainRun, shared, SharedRun};
@@ -56,16 +57,14 @@ pub fn lead(b: u8) -> Option<Sequence>
 fn escape_end(s: &[u8], at: usize) -> Option<usize>
     ensures { Skips s.now (esc (drop at s.now)) at result }
 {
-    if s.len() <= at {
-        return None;
-    }
-    match s[at] {
+    match s.get(at)? {
         b'"' | b'\\' => Some(at + 1),
         _ => None,
     }
 }
 
 // The `more` bytes of a character from `at` on, the first of them from `lo` to `hi`.
+#[tactic(auto, using(crate::proofs::Chars::over, crate::proofs::Chars::outside, crate::proofs::Chars::onward, crate::proofs::Chars::spent))]
 fn tail_end(s: &[u8], at: usize, more: u8, lo: u8, hi: u8) -> Option<usize>
     ensures { Skips s.now (chars (drop at s.now) more lo hi) at result }
 {
@@ -73,10 +72,8 @@ fn tail_end(s: &[u8], at: usize, more: u8, lo: u8, hi: u8) -> Option<usize>
     let mut low = lo;
     let mut high = hi;
     for _ in 0..more {
-        if s.len() <= i {
-            return None;
-        }
-        if s[i] < low || high < s[i] {
+        let b = *s.get(i)?;
+        if b < low || high < b {
             return None;
         }
         low = 128;
@@ -138,17 +135,15 @@ fn plain_end(s: &[u8], at: usize) -> usize
 }
 
 // The string whose opening quote stands just before `at`. Long runs of plain bytes come first: they are most of what is read.
+#[tactic(auto, using(crate::proofs::Chars::quote, crate::proofs::Chars::over))]
 pub fn string(s: &[u8], at: usize) -> Option<usize>
     ensures { result ≡ end_of (length s.now) (read_str (drop at s.now)) }
 {
     let mut i = plain_end(s, at);
-    while i < s.len() {
-        if s[i] == b'"' {
-            return Some(i + 1);
-        }
+    while *s.get(i)? != b'"' {
         i = char_end(s, i)?;
     }
-    None
+    Some(i + 1)
 }
 
 // The kinds of value, as the first byte tells them.
@@ -183,17 +178,20 @@ fn kind_of(b: u8) -> Kind
     }
 }
 
+// How many digits stand in front.
+fn digit_count(s: &[u8]) -> usize
+    ensures { result ≡ prefix_len is_digit s.now }
+{
+    s.iter().take_while(|b| b.is_ascii_digit()).count()
+}
+
 // Past the digits at `at`.
-#[tactic(auto, using(crate::proofs::Numbers::onward, crate::proofs::Numbers::stop, crate::proofs::Numbers::spent))]
-fn digits_end(s: &[u8], at: usize) -> usize
+#[tactic(auto, using(crate::proofs::Numbers::run, crate::proofs::Numbers::within))]
+pub fn digits_end(s: &[u8], at: usize) -> usize
     requires { at ≤ length s.now }
     ensures { end_of (length s.now) (digits_of (drop at s.now)) ≡ Some result }
 {
-    let mut i = at;
-    while i < s.len() && s[i].is_ascii_digit() {
-        i += 1;
-    }
-    i
+    at + digit_count(&s[at..])
 }
 
 // The digits of a number, after its minus where there is one.
@@ -201,10 +199,7 @@ fn digits_end(s: &[u8], at: usize) -> usize
 pub fn number(s: &[u8], at: usize, neg: bool) -> Option<usize>
     ensures { result ≡ end_of (length s.now) (number_of neg (drop at s.now)) }
 {
-    if s.len() <= at {
-        return None;
-    }
-    match s[at] {
+    match s.get(at)? {
         b'0' if neg => None,
         b'0' => Some(at + 1),
         b'1'..=b'9' => Some(digits_end(s, at + 1)),
@@ -225,22 +220,17 @@ fn word(s: &[u8], at: usize, w: &[u8]) -> Option<usize>
 }
 
 // The byte of a name at i, or that the name ends there.
+#[tactic(auto, using(crate::proofs::NameLaws::over, crate::proofs::NameLaws::closed, crate::proofs::NameLaws::lone, crate::proofs::NameLaws::escaped, crate::proofs::NameLaws::byte, crate::proofs::NameLaws::char_over, crate::proofs::NameLaws::char_closed, crate::proofs::NameLaws::char_lone, crate::proofs::NameLaws::char_escaped, crate::proofs::NameLaws::char_byte))]
 pub fn char_at(s: &[u8], i: usize) -> Option<(u8, usize)>
     ensures { CharRead s.now i result }
 {
-    if s.len() <= i {
-        return None;
-    }
-    let first = s[i];
+    let first = *s.get(i)?;
     if first == b'"' {
         return None;
     }
     let j = i + 1;
     if first == b'\\' {
-        if s.len() <= j {
-            return None;
-        }
-        return Some((s[j], j + 1));
+        return Some((*s.get(j)?, j + 1));
     }
     Some((first, j))
 }
@@ -320,11 +310,9 @@ fn in_order(s: &[u8], last: Option<usize>, k: usize) -> bool
 pub fn value(s: &[u8], at: usize, depth: u8) -> Option<usize>
     ensures { result ≡ end_of (length s.now) (read depth (drop at s.now)) }
 {
-    if s.len() <= at {
-        return None;
-    }
+    let kind = kind_of(*s.get(at)?);
     let next = at + 1;
-    match kind_of(s[at]) {
+    match kind {
         Kind::Text => string(s, next),
         Kind::Minus => number(s, next, true),
         Kind::Digit => number(s, at, false),
@@ -339,28 +327,22 @@ pub fn value(s: &[u8], at: usize, depth: u8) -> Option<usize>
 
 // The array whose opening bracket stands just before `at`; its elements may go `depth` deep.
 #[cycle(array_object_pair_value)]
+#[tactic(auto, using(crate::proofs::Loops::array_over, crate::proofs::Loops::array_empty, crate::proofs::Loops::array_begun, crate::proofs::Loops::array_none, crate::proofs::Loops::array_after, crate::proofs::Loops::array_cut, crate::proofs::Loops::array_last, crate::proofs::Loops::array_stray, crate::proofs::Loops::array_onward))]
 pub fn array(s: &[u8], at: usize, depth: u8) -> Option<usize>
     ensures { result ≡ end_of (length s.now) (array_of (read depth) (drop at s.now)) }
 {
-    if s.len() <= at {
-        return None;
-    }
-    if s[at] == b']' {
+    if *s.get(at)? == b']' {
         return Some(at + 1);
     }
     let mut i = at;
-    while i < s.len() {
+    loop {
         let e = value(s, i, depth)?;
-        if s.len() <= e {
-            return None;
-        }
-        match s[e] {
+        match s.get(e)? {
             b']' => return Some(e + 1),
             b',' => i = e + 1,
             _ => return None,
         }
     }
-    None
 }
 
 // The member at i, whose name must follow the one before.
@@ -369,10 +351,7 @@ pub fn array(s: &[u8], at: usize, depth: u8) -> Option<usize>
 fn pair(s: &[u8], i: usize, last: Option<usize>, depth: u8) -> Option<usize>
     ensures { result ≡ end_of (length s.now) (member_of (read depth) (last_of s.now last) (drop i s.now)) }
 {
-    if s.len() <= i {
-        return None;
-    }
-    if s[i] != b'"' {
+    if *s.get(i)? != b'"' {
         return None;
     }
     let k = i + 1;
@@ -380,10 +359,7 @@ fn pair(s: &[u8], i: usize, last: Option<usize>, depth: u8) -> Option<usize>
     if !in_order(s, last, k) {
         return None;
     }
-    if s.len() <= e {
-        return None;
-    }
-    if s[e] != b':' {
+    if *s.get(e)? != b':' {
         return None;
     }
     value(s, e + 1, depth)
@@ -391,23 +367,18 @@ fn pair(s: &[u8], i: usize, last: Option<usize>, depth: u8) -> Option<usize>
 
 // The object whose opening brace stands just before `at`; its values may go `depth` deep.
 #[cycle(array_object_pair_value)]
+#[tactic(auto, using(crate::proofs::Members::object_over, crate::proofs::Members::object_empty, crate::proofs::Members::object_begun, crate::proofs::Members::object_none, crate::proofs::Members::object_after, crate::proofs::Members::object_cut, crate::proofs::Members::object_last, crate::proofs::Members::object_stray, crate::proofs::Members::object_onward))]
 pub fn object(s: &[u8], at: usize, depth: u8) -> Option<usize>
     ensures { result ≡ end_of (length s.now) (object_of (read depth) (drop at s.now)) }
 {
-    if s.len() <= at {
-        return None;
-    }
-    if s[at] == b'}' {
+    if *s.get(at)? == b'}' {
         return Some(at + 1);
     }
     let mut i = at;
     let mut last = None;
-    while i < s.len() {
+    loop {
         let e = pair(s, i, last, depth)?;
-        if s.len() <= e {
-            return None;
-        }
-        match s[e] {
+        match s.get(e)? {
             b'}' => return Some(e + 1),
             b',' => {
                 last = Some(i + 1);
@@ -416,7 +387,6 @@ pub fn object(s: &[u8], at: usize, depth: u8) -> Option<usize>
             _ => return None,
         }
     }
-    None
 }
 
 // Whether the text is canonical.
