@@ -43,11 +43,14 @@ unique v w d e g h q =
 
 -- ## The two answers of `is_canonical`
 
-pub verdict_no : (d : ℕ) (s : Bytes) → end_of (length s) (read d s) ≡ None → (false ≡ true) ↔ Canonical d s
-verdict_no d s e = (λ z. never (sym z), λ c. let h = of_canonical d s c in cc)
+pub verdict-no : (d : ℕ) (s : Bytes) → end_of (length s) (read d s) ≡ None → (false ≡ true) ↔ Canonical d s
+verdict-no d s e = (λ z. never (sym z), λ c. let h = of_canonical d s c in cc)
 
-pub verdict_end : (d : ℕ) (s : Bytes) (e : ℕ) → end_of (length s) (read d s) ≡ Some e → (eqb e (length s) ≡ true) ↔ Canonical d s
-verdict_end d s e h = (
+pub verdict-end : (d : ℕ) (s : Bytes) (e : ℕ) → end_of (length s) (read d s) ≡ Some e → (eqb e (length s) ≡ true) ↔ Canonical d s
+verdict-end d s e h = (
   λ z. to_canonical d s (h ∙ ap Some (eqb-true e (length s) z)),
   λ c. let k = of_canonical d s c in let j : e ≡ length s = cc in eq-eqb e (length s) j,
 )
+
+-- what the check of `is_canonical` may use
+pub ruleset verdict_rules = (verdict-no, verdict-end)

@@ -106,3 +106,13 @@ module _ (s : Bytes) (i : ℕ) (h : i < length s) where
 pub skips_from : (s : Bytes) (g h : Got (Bytes)) (k : ℕ) (r : Option ℕ) → end_of (length s) g ≡ end_of (length s) h → Skips s h k r → Skips s g k r
 skips_from s g h k None e p = e ∙ p
 skips_from s g h k (Some j) e p = (e ∙ p.0, p.1)
+
+-- ## What the check of `escape_end` may use, of `tail_end`, of `char_end` and of `string`
+
+pub ruleset escape_rules = (lone, escaped, stray)
+
+pub ruleset tail_rules = (over, outside, onward, spent)
+
+pub ruleset char_rules = (skips_from, backslash, control, plain, no_lead, begun)
+
+pub ruleset string_rules = (quote, over)

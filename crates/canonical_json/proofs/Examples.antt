@@ -12,7 +12,7 @@ use Rattle.canonical_json.specs.Json.{Canonical, max_depth}
 use Rattle.canonical_json.specs.Read.{end_of, read, kind_of, chars, digits, number, loop, body, member}
 use Rattle.std.specs.declared.option.Option.{Option}
 use Rattle.std.specs.declared.option.Option.TheVariants.{None, Some}
-use Rattle.canonical_json.proofs.Canonical.{verdict_no, verdict_end}
+use Rattle.canonical_json.proofs.Canonical.{verdict-no, verdict-end}
 
 -- each text, and whether it is canonical
 abbrev table : List (Bytes × Bool)
@@ -46,8 +46,8 @@ unfolding verdict
 decides t = go (end_of (length t) (read max_depth t)) refl
   where
     go : (x : Option ℕ) → end_of (length t) (read max_depth t) ≡ x → (ends (length t) x ≡ true) ↔ Canonical max_depth t
-    go None e = verdict_no max_depth t e
-    go (Some k) e = verdict_end max_depth t k e
+    go None e = verdict-no max_depth t e
+    go (Some k) e = verdict-end max_depth t k e
 
 all : (cs : List (Bytes × Bool)) → map (λ c. verdict c.0) cs ≡ map (λ c. c.1) cs → Right cs
 all [] e = tt

@@ -144,3 +144,6 @@ module _ (d : ℕ) (s : Bytes) (i : ℕ) where
 
     pub array_onward : e < length s → (get_or s e 0 ≡ 93 → ⊥) → get_or s e 0 ≡ 44 → end_of (length s) (elements_of (arrays d) tt (drop i s)) ≡ end_of (length s) (elements_of (arrays d) tt (drop (e + 1) s))
     array_onward = onward (arrays d) s tt i e h
+
+-- what the check of `array` may use
+pub ruleset array_rules = (array_over, array_empty, array_begun, array_none, array_after, array_cut, array_last, array_stray, array_onward)

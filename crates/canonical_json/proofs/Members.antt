@@ -50,9 +50,9 @@ module _ (rd : Bytes → Got Json) (p : Option (Bytes)) where
     unfolding member
     over h = rw (at-end s i h)
 
-    pub no_quote : i < length s → (get_or s i 0 ≡ 34 → ⊥) → end_of (length s) (member rd p (drop i s)) ≡ None
+    pub no-quote : i < length s → (get_or s i 0 ≡ 34 → ⊥) → end_of (length s) (member rd p (drop i s)) ≡ None
     unfolding member
-    no_quote h e = rw (at-cons s i h, ne_eqb (get_or s i 0) 34 e)
+    no-quote h e = rw (at-cons s i h, ne_eqb (get_or s i 0) 34 e)
 
     module _ (h : i < length s) (q : get_or s i 0 ≡ 34) where
       pub no_name : end_of (length s) (read_str (drop (i + 1) s)) ≡ None → end_of (length s) (member rd p (drop i s)) ≡ None
@@ -74,13 +74,13 @@ module _ (rd : Bytes → Got Json) (p : Option (Bytes)) where
         unfolding member
         cut o f = let g : rises p name.value ≡ true = rw is-raw at f in rw (at-cons s i h, q, name.is, g, at-end s e o)
 
-        pub no_colon : e < length s → (get_or s e 0 ≡ 58 → ⊥) → rises p (raw (drop (i + 1) s)) ≡ true → end_of (length s) (member rd p (drop i s)) ≡ None
+        pub no-colon : e < length s → (get_or s e 0 ≡ 58 → ⊥) → rises p (raw (drop (i + 1) s)) ≡ true → end_of (length s) (member rd p (drop i s)) ≡ None
         unfolding member
-        no_colon o k f = let g : rises p name.value ≡ true = rw is-raw at f in rw (at-cons s i h, q, name.is, g, at-cons s e o, ne_eqb (get_or s e 0) 58 k)
+        no-colon o k f = let g : rises p name.value ≡ true = rw is-raw at f in rw (at-cons s i h, q, name.is, g, at-cons s e o, ne_eqb (get_or s e 0) 58 k)
 
-        pub then_value : e < length s → get_or s e 0 ≡ 58 → rises p (raw (drop (i + 1) s)) ≡ true → end_of (length s) (member rd p (drop i s)) ≡ end_of (length s) (rd (drop (e + 1) s))
+        pub then-value : e < length s → get_or s e 0 ≡ 58 → rises p (raw (drop (i + 1) s)) ≡ true → end_of (length s) (member rd p (drop i s)) ≡ end_of (length s) (rd (drop (e + 1) s))
         unfolding member
-        then_value o k f =
+        then-value o k f =
             let g : rises p name.value ≡ true = rw is-raw at f in
             rw (at-cons s i h, q, name.is, g, at-cons s e o, k) (ends-also (length s) (λ (x : Json). (name.value, x)) (rd (drop (e + 1) s)))
 
@@ -123,3 +123,9 @@ module _ (d : ℕ) (s : Bytes) (i : ℕ) where
 
       pub object_onward : e < length s → (get_or s e 0 ≡ 125 → ⊥) → get_or s e 0 ≡ 44 → end_of (length s) (elements_of (objects d) p (drop i s)) ≡ end_of (length s) (elements_of (objects d) (Some (raw (drop (i + 1) s))) (drop (e + 1) s))
       object_onward = onward d p s i e h
+
+-- ## What the check of `pair` may use, and that of `object`
+
+pub ruleset pair_rules = (over, no-quote, no_name, disorder, cut, no-colon, then-value)
+
+pub ruleset object_rules = (object_over, object_empty, object_begun, object_none, object_after, object_cut, object_last, object_stray, object_onward)

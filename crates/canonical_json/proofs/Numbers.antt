@@ -22,9 +22,9 @@ module _ (s : Bytes) (i : ℕ) where
   unfolding number
   over neg h = rw (at-end s i h)
 
-  pub minus_zero : (neg : Bool) → i < length s → get_or s i 0 ≡ 48 → neg ≡ true → end_of (length s) (number neg (drop i s)) ≡ None
+  pub minus-zero : (neg : Bool) → i < length s → get_or s i 0 ≡ 48 → neg ≡ true → end_of (length s) (number neg (drop i s)) ≡ None
   unfolding number
-  minus_zero neg h e f = rw (at-cons s i h, eq-eqb (get_or s i 0) 48 e, f)
+  minus-zero neg h e f = rw (at-cons s i h, eq-eqb (get_or s i 0) 48 e, f)
 
   pub is_zero : (neg : Bool) → i < length s → get_or s i 0 ≡ 48 → neg ≡ false → end_of (length s) (number neg (drop i s)) ≡ Some (i + 1)
   unfolding number
@@ -57,3 +57,9 @@ run s i h =
 
 pub within : (s : Bytes) (i : ℕ) → i ≤ length s → i + prefix_len is_digit (take (length s - i) (drop i s)) ≤ length s
 within s i h = rw take_rest (omega (arith, prefix_len-le-length is_digit (drop i s), length-drop i s))
+
+-- ## What the check of `number` may use, and that of `digits_end`
+
+pub ruleset number_rules = (over, minus-zero, is_zero, none, begun)
+
+pub ruleset digits_rules = (run, within)

@@ -53,7 +53,7 @@ pub fn lead(b: u8) -> Option<Sequence>
 }
 
 // The escape whose backslash stands just before `at`.
-#[tactic(auto, using(crate::proofs::Chars::lone, crate::proofs::Chars::escaped, crate::proofs::Chars::stray))]
+#[tactic(auto, using(crate::proofs::Chars::escape_rules))]
 fn escape_end(s: &[u8], at: usize) -> Option<usize>
     ensures { Skips s.now (esc (drop at s.now)) at result }
 {
@@ -64,7 +64,7 @@ fn escape_end(s: &[u8], at: usize) -> Option<usize>
 }
 
 // The `more` bytes of a character from `at` on, the first of them from `lo` to `hi`.
-#[tactic(auto, using(crate::proofs::Chars::over, crate::proofs::Chars::outside, crate::proofs::Chars::onward, crate::proofs::Chars::spent))]
+#[tactic(auto, using(crate::proofs::Chars::tail_rules))]
 fn tail_end(s: &[u8], at: usize, more: u8, lo: u8, hi: u8) -> Option<usize>
     ensures { Skips s.now (chars (drop at s.now) more lo hi) at result }
 {
@@ -84,6 +84,7 @@ fn tail_end(s: &[u8], at: usize, more: u8, lo: u8, hi: u8) -> Option<usize>
 }
 
 // The escape or the character at i, where no quote stands. ASCII comes first: it is most of what is read.
+#[tactic(auto, using(crate::proofs::Chars::char_rules))]
 fn char_end(s: &[u8], i: usize) -> Option<usize>
     requires { (i < length s.now) × (get_or s.now i 0 ≡ 34 → ⊥) }
     ensures { Skips s.now (read_str (drop i s.now)) (i + 1) result }
@@ -124,6 +125,7 @@ fn is_plain_block(s: &[u8], at: usize) -> bool
 }
 
 // Past the blocks of plain bytes that stand at `at`.
+#[tactic(auto, using(crate::proofs::PlainLaws::plain_rules))]
 fn plain_end(s: &[u8], at: usize) -> usize
     ensures { end_of (length s.now) (read_str (drop at s.now)) ≡ end_of (length s.now) (read_str (drop result s.now)) }
 {
@@ -135,7 +137,7 @@ fn plain_end(s: &[u8], at: usize) -> usize
 }
 
 // The string whose opening quote stands just before `at`. Long runs of plain bytes come first: they are most of what is read.
-#[tactic(auto, using(crate::proofs::Chars::quote, crate::proofs::Chars::over))]
+#[tactic(auto, using(crate::proofs::Chars::string_rules))]
 pub fn string(s: &[u8], at: usize) -> Option<usize>
     ensures { result ≡ end_of (length s.now) (read_str (drop at s.now)) }
 {
@@ -186,7 +188,7 @@ fn digit_count(s: &[u8]) -> usize
 }
 
 // Past the digits at `at`.
-#[tactic(auto, using(crate::proofs::Numbers::run, crate::proofs::Numbers::within))]
+#[tactic(auto, using(crate::proofs::Numbers::digits_rules))]
 pub fn digits_end(s: &[u8], at: usize) -> usize
     requires { at ≤ length s.now }
     ensures { end_of (length s.now) (digits_of (drop at s.now)) ≡ Some result }
@@ -195,7 +197,7 @@ pub fn digits_end(s: &[u8], at: usize) -> usize
 }
 
 // The digits of a number, after its minus where there is one.
-#[tactic(auto, using(crate::proofs::Numbers::over, crate::proofs::Numbers::minus_zero, crate::proofs::Numbers::is_zero, crate::proofs::Numbers::none, crate::proofs::Numbers::begun))]
+#[tactic(auto, using(crate::proofs::Numbers::number_rules))]
 pub fn number(s: &[u8], at: usize, neg: bool) -> Option<usize>
     ensures { result ≡ end_of (length s.now) (number_of neg (drop at s.now)) }
 {
@@ -208,6 +210,7 @@ pub fn number(s: &[u8], at: usize, neg: bool) -> Option<usize>
 }
 
 // The bytes w stand at `at`.
+#[tactic(auto, using(crate::proofs::Words::stands, crate::proofs::Words::differs))]
 fn word(s: &[u8], at: usize, w: &[u8]) -> Option<usize>
     requires { at ≤ length s.now }
     ensures { result ≡ end_of (length s.now) (word_of w.now (drop at s.now)) }
@@ -220,7 +223,7 @@ fn word(s: &[u8], at: usize, w: &[u8]) -> Option<usize>
 }
 
 // The byte of a name at i, or that the name ends there.
-#[tactic(auto, using(crate::proofs::NameLaws::over, crate::proofs::NameLaws::closed, crate::proofs::NameLaws::lone, crate::proofs::NameLaws::escaped, crate::proofs::NameLaws::byte, crate::proofs::NameLaws::char_over, crate::proofs::NameLaws::char_closed, crate::proofs::NameLaws::char_lone, crate::proofs::NameLaws::char_escaped, crate::proofs::NameLaws::char_byte))]
+#[tactic(auto, using(crate::proofs::NameLaws::char_rules))]
 pub fn char_at(s: &[u8], i: usize) -> Option<(u8, usize)>
     ensures { CharRead s.now i result }
 {
@@ -257,6 +260,7 @@ fn is_shared_block(s: &[u8], a: usize, b: usize) -> bool
 }
 
 // Past the blocks that the names share: names that follow one another mostly begin alike.
+#[tactic(auto, using(crate::proofs::SharedLaws::shared_rules))]
 fn shared_end(s: &[u8], a: usize, b: usize) -> (usize, usize)
     ensures { less (raw (drop a s.now)) (raw (drop b s.now)) ≡ less (raw (drop result.0 s.now)) (raw (drop result.1 s.now)) }
 {
@@ -275,6 +279,7 @@ fn shared_end(s: &[u8], a: usize, b: usize) -> (usize, usize)
 }
 
 // The name at a is less than the name at b: byte by byte, a shorter prefix first.
+#[tactic(auto, using(crate::proofs::NameLaws::less_rules))]
 fn name_less(s: &[u8], a: usize, b: usize) -> bool
     ensures { result ≡ less (raw (drop a s.now)) (raw (drop b s.now)) }
 {
@@ -306,7 +311,7 @@ fn in_order(s: &[u8], last: Option<usize>, k: usize) -> bool
 
 // The value at `at`; objects and arrays may hold one another `depth` deep.
 #[cycle(array_object_pair_value)]
-#[tactic(auto, using(crate::proofs::Values::over, crate::proofs::Values::other, crate::proofs::Values::text, crate::proofs::Values::minus, crate::proofs::Values::digit, crate::proofs::Values::is_true, crate::proofs::Values::is_false, crate::proofs::Values::is_null, crate::proofs::Values::deep_array, crate::proofs::Values::deep_object, crate::proofs::Values::in_array, crate::proofs::Values::in_object))]
+#[tactic(auto, using(crate::proofs::Values::value_rules))]
 pub fn value(s: &[u8], at: usize, depth: u8) -> Option<usize>
     ensures { result ≡ end_of (length s.now) (read depth (drop at s.now)) }
 {
@@ -327,7 +332,7 @@ pub fn value(s: &[u8], at: usize, depth: u8) -> Option<usize>
 
 // The array whose opening bracket stands just before `at`; its elements may go `depth` deep.
 #[cycle(array_object_pair_value)]
-#[tactic(auto, using(crate::proofs::Loops::array_over, crate::proofs::Loops::array_empty, crate::proofs::Loops::array_begun, crate::proofs::Loops::array_none, crate::proofs::Loops::array_after, crate::proofs::Loops::array_cut, crate::proofs::Loops::array_last, crate::proofs::Loops::array_stray, crate::proofs::Loops::array_onward))]
+#[tactic(auto, using(crate::proofs::Loops::array_rules))]
 pub fn array(s: &[u8], at: usize, depth: u8) -> Option<usize>
     ensures { result ≡ end_of (length s.now) (array_of (read depth) (drop at s.now)) }
 {
@@ -347,7 +352,7 @@ pub fn array(s: &[u8], at: usize, depth: u8) -> Option<usize>
 
 // The member at i, whose name must follow the one before.
 #[cycle(array_object_pair_value)]
-#[tactic(auto, using(crate::proofs::Members::over, crate::proofs::Members::no_quote, crate::proofs::Members::no_name, crate::proofs::Members::disorder, crate::proofs::Members::cut, crate::proofs::Members::no_colon, crate::proofs::Members::then_value))]
+#[tactic(auto, using(crate::proofs::Members::pair_rules))]
 fn pair(s: &[u8], i: usize, last: Option<usize>, depth: u8) -> Option<usize>
     ensures { result ≡ end_of (length s.now) (member_of (read depth) (last_of s.now last) (drop i s.now)) }
 {
@@ -367,7 +372,7 @@ fn pair(s: &[u8], i: usize, last: Option<usize>, depth: u8) -> Option<usize>
 
 // The object whose opening brace stands just before `at`; its values may go `depth` deep.
 #[cycle(array_object_pair_value)]
-#[tactic(auto, using(crate::proofs::Members::object_over, crate::proofs::Members::object_empty, crate::proofs::Members::object_begun, crate::proofs::Members::object_none, crate::proofs::Members::object_after, crate::proofs::Members::object_cut, crate::proofs::Members::object_last, crate::proofs::Members::object_stray, crate::proofs::Members::object_onward))]
+#[tactic(auto, using(crate::proofs::Members::object_rules))]
 pub fn object(s: &[u8], at: usize, depth: u8) -> Option<usize>
     ensures { result ≡ end_of (length s.now) (object_of (read depth) (drop at s.now)) }
 {
@@ -390,7 +395,7 @@ pub fn object(s: &[u8], at: usize, depth: u8) -> Option<usize>
 }
 
 // Whether the text is canonical.
-#[tactic(auto, using(crate::proofs::Canonical::verdict_no, crate::proofs::Canonical::verdict_end))]
+#[tactic(auto, using(crate::proofs::Canonical::verdict_rules))]
 pub fn is_canonical(s: &[u8]) -> bool
     ensures { (result ≡ true) ↔ Canonical max_depth s.now }
 {
