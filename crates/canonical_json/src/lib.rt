@@ -253,8 +253,8 @@ fn is_shared_block(s: &[u8], a: usize, b: usize) -> bool
     ensures { result ≡ true → SharedRun s.now a b 16 }
 {
     let mut all = true;
-    for (x, y) in s[a..a + BLOCK].iter().zip(&s[b..b + BLOCK]) {
-        all &= is_shared(*x, *y);
+    for k in 0..BLOCK {
+        all &= is_shared(s[a + k], s[b + k]);
     }
     all
 }
