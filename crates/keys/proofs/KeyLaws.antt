@@ -6,10 +6,8 @@ use Rattle.std.proofs.Math.ListN.{drop_of_length-le}
 use borrow.Author.Tests.{eq-eqb, ne_eqb, ltb-true, ltb-false}
 use mathlib.Core.Bool.{and_comm, or-false, or-true}
 use Rattle.std.proofs.Common.{below_more, bit_or, ◌*◌, ◌^◌, ◌%◌}
-use Rattle.std.proofs.Common.{Option, Some, min, take, get_or-take}
+use Rattle.std.proofs.Common.{Option, Some, None, min, take, get_or-take}
 use Rattle.std.proofs.lemmas.List.{length-map}
-use Rattle.std.proofs.Math.Option as math
-use Rattle.std.proofs.Math.Option.{some}
 use Rattle.base.specs.Bytes.{Bytes, same}
 use Rattle.rules.specs.Records as rules
 use Rattle.records.specs.declared.KeyTable.{KeyTable}
@@ -104,8 +102,8 @@ unfolding key_of view_key
 asked-find k [] = refl
 asked-find k (x ∷ ks) = at (key_of k (map view_key ks)) (find (λ (y : Key). same k (view_id y.keyid)) ks) (same k (view_id x.keyid)) (asked-find k ks)
   where
-    at : (o : math.Option rules.Key) (found : Option Key) (b : Bool) → Asked o (option_map (λ (y : Key). y.public) found)
-        → Asked (cond b (some (view_key x)) o) (option_map (λ (y : Key). y.public) (cond b (Some x) found))
+    at : (o : Option rules.Key) (found : Option Key) (b : Bool) → Asked o (option_map (λ (y : Key). y.public) found)
+        → Asked (cond b (Some (view_key x)) o) (option_map (λ (y : Key). y.public) (cond b (Some x) found))
     at o found true h = refl
     at o found false h = h
 

@@ -1,7 +1,5 @@
 -- What this crate's functions promise, where that is not a definition of the paper's.
-use Rattle.std.specs.Prelude.{◌≡◌, Bool, false, ◌&&◌, List, ℕ, ◌<◌, ◌≤◌, ltb, Option, IsNone, IsSomeAnd}
-use Rattle.std.proofs.Math.Option as math
-use Rattle.std.proofs.Math.Option.{none, some}
+use Rattle.std.specs.Prelude.{◌≡◌, Bool, false, ◌&&◌, List, ℕ, ◌<◌, ◌≤◌, ltb, Option, Some, None, IsNone, IsSomeAnd}
 use Rattle.base.specs.Bytes.{Bytes, same}
 use Rattle.rules.specs.Limits.{max_keys}
 use Rattle.rules.specs.Records as rules
@@ -29,6 +27,6 @@ pub record Marked (gave : ℕ → Bool → Type 0) (n bits : ℕ) : Type 0 where
   pub others : (k : ℕ) → k < max_keys → n ≤ k → has bits k ≡ false
 
 -- a key asked for: its public value, where there is such a key
-abbrev pub Asked : math.Option rules.Key → Option Id → Type 0
-Asked none public = IsNone public
-Asked (some key) public = IsSomeAnd public (λ p. view_id p ≡ key.public)
+abbrev pub Asked : Option rules.Key → Option Id → Type 0
+Asked None public = IsNone public
+Asked (Some key) public = IsSomeAnd public (λ p. view_id p ≡ key.public)

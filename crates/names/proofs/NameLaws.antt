@@ -2,8 +2,6 @@
 use Rattle.std.proofs.Common.{refl, cond, Bool, Option, Some, None, ◌≡◌, ℕ, ◌+◌, ◌<◌, ◌≤◌, true, false, List, [], ◌∷◌, map, length, get_or, drop, add-one, drop-cons}
 use Rattle.std.proofs.Math.ListN.{drop_of_length-le}
 use Rattle.std.specs.List.{find}
-use Rattle.std.proofs.Math.Option as math
-use Rattle.std.proofs.Math.Option.{none, some}
 use borrow.Author.Tests.{lt-ltb, le-ltb}
 use Rattle.base.specs.Bytes.{Bytes, bytes, same}
 use Rattle.rules.specs.Records as rules
@@ -19,7 +17,7 @@ module _ (ks : List Named) (i : ℕ) where
   -- ## What they say of the name x
 
   pub listed-hit : (x : Bytes) → i < length ks → same x (view_name (get_or ks i no_named).name) ≡ true
-      → listed_as x (map view_named (drop i ks)) ≡ some (view_listed (get_or ks i no_named).listed)
+      → listed_as x (map view_named (drop i ks)) ≡ Some (view_listed (get_or ks i no_named).listed)
   unfolding listed_as view_named
   listed-hit x h e = rw (names-next h, e)
 
@@ -28,23 +26,23 @@ module _ (ks : List Named) (i : ℕ) where
   unfolding listed_as view_named
   listed-skip x h e = rw (names-next h, e)
 
-  pub listed-end : (x : Bytes) → length ks ≤ i → listed_as x (map view_named (drop i ks)) ≡ none
+  pub listed-end : (x : Bytes) → length ks ≤ i → listed_as x (map view_named (drop i ks)) ≡ None
   unfolding listed_as
   listed-end x h = rw (drop_of_length-le ks h)
 
   -- ## Whether one of them was lost, by what the new names say of it
 
   module _ (new : List rules.Named) (h : i < length ks) where
-    pub lost_gone : listed_as (view_name (get_or ks i no_named).name) new ≡ none → lost (map view_named (drop i ks)) new ≡ true
+    pub lost_gone : listed_as (view_name (get_or ks i no_named).name) new ≡ None → lost (map view_named (drop i ks)) new ≡ true
     unfolding lost fallen view_named
     lost_gone e = rw (names-next h, e)
 
-    pub lost_lower : (l : rules.Listed) → listed_as (view_name (get_or ks i no_named).name) new ≡ some l → l.version < (get_or ks i no_named).listed.version
+    pub lost_lower : (l : rules.Listed) → listed_as (view_name (get_or ks i no_named).name) new ≡ Some l → l.version < (get_or ks i no_named).listed.version
         → lost (map view_named (drop i ks)) new ≡ true
     unfolding lost fallen view_named view_listed
     lost_lower l e v = rw (names-next h, e, lt-ltb _ _ v)
 
-    pub lost_not : (l : rules.Listed) → listed_as (view_name (get_or ks i no_named).name) new ≡ some l → (get_or ks i no_named).listed.version ≤ l.version
+    pub lost_not : (l : rules.Listed) → listed_as (view_name (get_or ks i no_named).name) new ≡ Some l → (get_or ks i no_named).listed.version ≤ l.version
         → lost (map view_named (drop i ks)) new ≡ lost (map view_named (drop (i + 1) ks)) new
     unfolding lost fallen view_named view_listed
     lost_not l e v = rw (names-next h, e, le-ltb _ _ v)
@@ -58,31 +56,31 @@ module _ (ks : List Named) (i : ℕ) where
 abbrev named : Bytes → Named → Bool
 named x n = same x (view_name n.name)
 
-pub listed-find : (x : Bytes) (ks : List Named) (n : Named) → find (named x) ks ≡ Some n → listed_as x (map view_named ks) ≡ some (view_listed n.listed)
+pub listed-find : (x : Bytes) (ks : List Named) (n : Named) → find (named x) ks ≡ Some n → listed_as x (map view_named ks) ≡ Some (view_listed n.listed)
 unfolding listed_as view_named
 listed-find x [] n e = cc
 listed-find x (k ∷ ks) n e = at (same x (view_name k.name)) (find (named x) ks) (listed_as x (map view_named ks)) e (listed-find x ks n)
   where
-    at : (b : Bool) (r : Option Named) (o : math.Option rules.Listed) → cond b (Some k) r ≡ Some n → (r ≡ Some n → o ≡ some (view_listed n.listed)) → cond b (some (view_listed k.listed)) o ≡ some (view_listed n.listed)
+    at : (b : Bool) (r : Option Named) (o : Option rules.Listed) → cond b (Some k) r ≡ Some n → (r ≡ Some n → o ≡ Some (view_listed n.listed)) → cond b (Some (view_listed k.listed)) o ≡ Some (view_listed n.listed)
     at true r o e f = let h : k ≡ n = cc in rw h
     at false r o e f = f e
 
-pub listed-none : (x : Bytes) (ks : List Named) → find (named x) ks ≡ None → listed_as x (map view_named ks) ≡ none
+pub listed-none : (x : Bytes) (ks : List Named) → find (named x) ks ≡ None → listed_as x (map view_named ks) ≡ None
 unfolding listed_as view_named
 listed-none x [] e = refl
 listed-none x (k ∷ ks) e = at (same x (view_name k.name)) (find (named x) ks) (listed_as x (map view_named ks)) e (listed-none x ks)
   where
-    at : (b : Bool) (r : Option Named) (o : math.Option rules.Listed) → cond b (Some k) r ≡ None → (r ≡ None → o ≡ none) → cond b (some (view_listed k.listed)) o ≡ none
+    at : (b : Bool) (r : Option Named) (o : Option rules.Listed) → cond b (Some k) r ≡ None → (r ≡ None → o ≡ None) → cond b (Some (view_listed k.listed)) o ≡ None
     at true r o e f = cc
     at false r o e f = f e
 
 -- ## What a snapshot says of `targets.json`
 
 module _ (s : Snapshot) where
-  pub entry-some : (l : rules.Listed) → listed_as (bytes "targets.json") s.names ≡ some l → l ≡ targets_entry s
+  pub entry-some : (l : rules.Listed) → listed_as (bytes "targets.json") s.names ≡ Some l → l ≡ targets_entry s
   unfolding targets_entry
   entry-some l e = rw e
 
-  pub entry-none : listed_as (bytes "targets.json") s.names ≡ none → record { version = 0; length = none; digest = none } ≡ targets_entry s
+  pub entry-none : listed_as (bytes "targets.json") s.names ≡ None → record { version = 0; length = None; digest = None } ≡ targets_entry s
   unfolding targets_entry
   entry-none e = rw e
