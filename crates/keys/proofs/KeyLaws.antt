@@ -6,9 +6,8 @@ use Rattle.std.proofs.Math.ListN.{drop_of_length-le}
 use borrow.Author.Tests.{eq-eqb, ne_eqb, ltb-true, ltb-false}
 use mathlib.Core.Bool.{and_comm, or-false, or-true}
 use Rattle.std.proofs.Common.{below_more, bit_or, ◌*◌, ◌^◌, ◌%◌}
-use Rattle.std.proofs.Common.{Option, Some, min, take, get_or-take}
+use Rattle.std.proofs.Common.{Option, Some, None, min, take, get_or-take}
 use Rattle.std.proofs.lemmas.List.{length-map}
-
 use Rattle.base.specs.Bytes.{Bytes, same}
 use Rattle.rules.specs.Records as rules
 use Rattle.records.specs.declared.KeyTable.{KeyTable}

@@ -1,6 +1,5 @@
 -- What this crate's functions promise, where that is not a definition of the paper's.
-use Rattle.std.specs.Prelude.{◌≡◌, Bool, false, ◌&&◌, List, ℕ, ◌<◌, ◌≤◌, ltb, Option, IsNone, IsSomeAnd}
-use Rattle.std.specs.declared.option.Option.TheVariants.{None, Some}
+use Rattle.std.specs.Prelude.{◌≡◌, Bool, false, ◌&&◌, List, ℕ, ◌<◌, ◌≤◌, ltb, Option, Some, None, IsNone, IsSomeAnd}
 use Rattle.base.specs.Bytes.{Bytes, same}
 use Rattle.rules.specs.Limits.{max_keys}
 use Rattle.rules.specs.Records as rules
