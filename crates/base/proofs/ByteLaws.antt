@@ -1,28 +1,16 @@
--- Equality of byte strings: as a test, and one turn of a loop that compares.
+-- Equality of byte strings: as a test, and of a part that begins at a place.
 use mathlib.Core.Path.{◌≡◌, refl, sym, ap, ◌∙◌}
 use mathlib.Core.List.{[], ◌∷◌, ◌++◌}
-use mathlib.Core.Bool.{Bool, true, false, ◌&&◌, and-true, and-false, and_assoc}
+use mathlib.Core.Bool.{Bool, true, false, ◌&&◌, and-false}
+use Rattle.std.specs.Str.{bytes_eq}
 use Prim.Native.Nat.{ℕ, suc, ◌≤◌, ◌<◌, ◌+◌, ◌-◌}
 use native.Mathlib.Omega.{arith}
 use lib.Dec.{eqb, leb}
-use lib.ListN.{length, take, drop, get_or, length-take, length-drop, take-append-drop}
+use lib.ListN.{length, take, drop, length-take, length-drop, take-append-drop}
 use lib.Seq.{drop-drop}
 use borrow.Author.Tests.{eq-eqb, ne_eqb, eqb-true, le-leb, lt-leb, leb-true}
 use Rattle.base.specs.Bytes.{Bytes, same, is_digit}
 use Rattle.base.proofs.TestLaws.{never, both, same_test}
-use Rattle.base.proofs.PlaceLaws.{at-cons, at-end}
-
-pub same_none : same [] [] ≡ true
-unfolding same
-same_none = refl
-
-pub same-cons : (x y : ℕ) (a b : Bytes) → x ≡ y → same (x ∷ a) (y ∷ b) ≡ same a b
-unfolding same
-same-cons x y a b e = rw (eq-eqb x y e)
-
-pub same-differ : (x y : ℕ) (a b : Bytes) → (x ≡ y → ⊥) → same (x ∷ a) (y ∷ b) ≡ false
-unfolding same
-same-differ x y a b f = rw (ne_eqb x y f)
 
 pub same_self : (a : Bytes) → same a a ≡ true
 unfolding same
@@ -50,41 +38,19 @@ same-lengths [] (y ∷ b) h = refl
 same-lengths (x ∷ a) [] h = refl
 same-lengths (x ∷ a) (y ∷ b) h = rw (same-lengths a b (λ e. h (ap suc e)), and-false)
 
--- ## One turn of a loop, at place i of both
+-- as the library compares byte strings
+pub same-compared : (a b : Bytes) → bytes_eq a b ≡ same a b
+unfolding same
+same-compared [] [] = refl
+same-compared [] (y ∷ b) = refl
+same-compared (x ∷ a) [] = refl
+same-compared (x ∷ a) (y ∷ b) = ap (λ (t : Bool). eqb x y && t) (same-compared a b)
 
-module _ (a b : Bytes) (i : ℕ) where
-  pub same-apart : i < length a → i < length b → (get_or a i 0 ≡ get_or b i 0 → ⊥) → same (drop i a) (drop i b) ≡ false
-  same-apart p q f = rw (at-cons a i p, at-cons b i q) (same-differ _ _ _ _ f)
+-- ## The bytes w, and what stands at `at`
 
-  pub same_next : i < length a → i < length b → get_or a i 0 ≡ get_or b i 0 → same (drop i a) (drop i b) ≡ same (drop (i + 1) a) (drop (i + 1) b)
-  same_next p q e = rw (at-cons a i p, at-cons b i q) (same-cons _ _ _ _ e)
-
-  pub same_end : length a ≤ i → length b ≤ i → same (drop i a) (drop i b) ≡ true
-  same_end p q = rw (at-end a i p, at-end b i q) same_none
-
--- ## One turn of a loop that compares w with what stands at `at`; `all` of the bytes before k are the same or not
-
-module _ (s w : Bytes) (at k : ℕ) (all : Bool) where
-  pub stood_next : at + length w ≤ length s → k < length w
-      → all && same (take (length w - k) (drop (at + k) s)) (drop k w) ≡ (all && eqb (get_or s (at + k) 0) (get_or w k 0)) && same (take (length w - (k + 1)) (drop (at + (k + 1)) s)) (drop (k + 1) w)
-  unfolding same
-  stood_next h l =
-      let n : length w - k ≡ suc (length w - (k + 1)) = omega arith in
-      let m : at + k + 1 ≡ at + (k + 1) = omega arith in
-      rw (n, at-cons s (at + k) (omega arith), at-cons w k l, m)
-      (sym (and_assoc all (eqb (get_or s (at + k) 0) (get_or w k 0)) (same (take (length w - (k + 1)) (drop (at + (k + 1)) s)) (drop (k + 1) w))))
-
-  pub stood-end : length w ≤ k → all && same (take (length w - k) (drop (at + k) s)) (drop k w) ≡ all
-  unfolding same
-  stood-end h =
-      let n : length w - k ≡ 0 = omega arith in
-      rw (n, at-end w k h) (and-true all)
-
-pub stood-first : (s w : Bytes) (at : ℕ) → same (take (length w) (drop at s)) w ≡ true && same (take (length w - 0) (drop (at + 0) s)) (drop 0 w)
-stood-first s w at =
-    let n : length w - 0 ≡ length w = omega arith in
-    let m : at + 0 ≡ at = omega arith in
-    rw (n, m) refl
+-- as the library tests how a rest begins
+pub stood : (s w rest : Bytes) (at : ℕ) → rest ≡ drop at s → bytes_eq w (take (length w) rest) ≡ same (take (length w) (drop at s)) w
+stood s w rest at e = rw e (same-compared w (take (length w) (drop at s)) ∙ same-sym w (take (length w) (drop at s)))
 
 -- fewer bytes are left
 pub stood-short : (s w : Bytes) (at : ℕ) → length s - at < length w → same (take (length w) (drop at s)) w ≡ false

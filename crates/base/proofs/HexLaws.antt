@@ -1,5 +1,5 @@
 -- Hex digits by cases, one turn of a loop that undoes pairs of them, and bytes to hex and back.
-use mathlib.Core.Path.{◌≡◌, refl, sym, ◌∙◌}
+use mathlib.Core.Path.{◌≡◌, refl, sym, ap, ◌∙◌}
 use mathlib.Core.List.{[], ◌∷◌, ◌++◌, append_assoc, append-nil, Memᴰ}
 use mathlib.Core.Bool.{Bool, true, false, ◌&&◌, and-true, and-false, and_assoc}
 use Prim.Native.Nat.{ℕ, zero, suc, ◌+◌, ◌-◌, ◌*◌, ◌/◌, ◌%◌, ◌≤◌, ◌<◌}
@@ -10,7 +10,9 @@ use Rattle.base.proofs.TestLaws.{both}
 use lib.ListN.{length, get_or, take, drop, set, length-set}
 use lib.Seq.{take-suc-set, take_all}
 use Rattle.base.specs.Bytes.{Bytes}
-use Rattle.base.specs.Hex.{digit_of, all_hex, undo, is_hex, hex_digit, hex_of}
+use Rattle.std.specs.Prelude.{Some, None}
+use Rattle.std.specs.Bool.{then_some}
+use Rattle.base.specs.Hex.{digit_of, all_hex, undo, is_hex, Undone, undone, hex_digit, hex_of}
 use Rattle.base.proofs.PlaceLaws.{at-cons, at-end}
 
 -- ## A digit
@@ -20,9 +22,9 @@ module _ (b : ℕ) where
   unfolding digit_of
   decimal p q = simp (le-leb _ _ p, le-leb _ _ q)
 
-  pub letter : 97 ≤ b → b ≤ 102 → b - 87 ≡ digit_of b
+  pub letter : 97 ≤ b → b ≤ 102 → b - 97 + 10 ≡ digit_of b
   unfolding digit_of
-  letter p q = simp (lt-leb b 57 (omega arith), and-false, le-leb _ _ p, le-leb _ _ q)
+  letter p q = simp (lt-leb b 57 (omega arith), and-false, le-leb _ _ p, le-leb _ _ q) (omega arith)
 
   pub below : b < 48 → 16 ≡ digit_of b
   unfolding digit_of
@@ -57,10 +59,10 @@ module _ (b : ℕ) (h : digit_of b < 16) where
   pub value-decimal : b < 97 → (48 ≤ b) × (b - 48 ≡ digit_of b)
   value-decimal l = (from_zero, decimal b from_zero (to_nine l))
 
-  pub value-letter : 97 ≤ b → b - 87 ≡ digit_of b
+  pub value-letter : 97 ≤ b → b - 97 + 10 ≡ digit_of b
   value-letter l = go (ltb 102 b) refl
     where
-      go : (x : Bool) → ltb 102 b ≡ x → b - 87 ≡ digit_of b
+      go : (x : Bool) → ltb 102 b ≡ x → b - 97 + 10 ≡ digit_of b
       go true e = let z = above b (ltb-true 102 b e) in absurd (omega arith)
       go false e = letter b l (ltb-false 102 b e)
 
@@ -214,3 +216,17 @@ hex_of-pairs n (a ∷ (b ∷ s)) l e =
 
 pub hex_of-undo : (n : ℕ) (s : Bytes) → is_hex n s ≡ true → hex_of (undo s) ≡ s
 hex_of-undo n s e = let w = hex-parts n s e in hex_of-pairs n s w.0 w.1
+
+-- ## N bytes undone
+
+pub undone-some : (n : ℕ) (s bytes : Bytes) → is_hex n s ≡ true → bytes ≡ undo s → Some bytes ≡ undone n s
+unfolding undone
+undone-some n s bytes e f = rw (e, f)
+
+pub undone_none : (n : ℕ) (s : Bytes) → is_hex n s ≡ false → None ≡ undone n s
+unfolding undone
+undone_none n s e = rw e
+
+pub undone-then : (n : ℕ) (s before after : Bytes) (accepted : Bool) → length before ≡ n → Undone s before accepted after → then_some accepted after ≡ undone n s
+undone-then n s before after true e u = undone-some n s after (ap (λ (k : ℕ). is_hex k s) (sym e) ∙ sym u.answer) u.buffer
+undone-then n s before after false e u = undone_none n s (ap (λ (k : ℕ). is_hex k s) (sym e) ∙ sym u.answer)

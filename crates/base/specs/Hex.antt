@@ -1,5 +1,6 @@
 -- Lower-case hex: two digits to a byte, the higher first.
-use Rattle.std.specs.Prelude.{◌≡◌, [], ◌∷◌, Bool, true, cond, ◌&&◌, ℕ, ◌+◌, ◌-◌, ◌*◌, ◌/◌, ◌%◌, length, leb, ltb, eqb}
+use Rattle.std.specs.Prelude.{◌≡◌, [], ◌∷◌, Bool, true, cond, ◌&&◌, ℕ, ◌+◌, ◌-◌, ◌*◌, ◌/◌, ◌%◌, length, leb, ltb, eqb, Some, None}
+use Rattle.std.specs.declared.option.Option.{Option}
 use Rattle.base.specs.Bytes.{Bytes, is_digit}
 
 -- the value of a digit, or 16 where the byte is none
@@ -20,6 +21,10 @@ unfoldable pub undo : Bytes → Bytes
 undo [] = []
 undo (a ∷ []) = []
 undo (a ∷ (b ∷ s)) = (digit_of a * 16 + digit_of b) ∷ undo s
+
+-- what s undone is: n bytes, or nothing where it is not exactly as many digits
+unfoldable pub undone : ℕ → Bytes → Option Bytes
+undone n s = cond (is_hex n s) (Some (undo s)) None
 
 -- the digit of a value below 16
 unfoldable pub hex_digit : ℕ → ℕ

@@ -1,18 +1,13 @@
 -- `byte_after`: past the end the byte is 0, and no sum of places overflows.
-use native.Mathlib.Omega.{arith}
-use mathlib.Core.Path.{sym}
-use borrow.Author.Rules.{rules}
+use Rattle.std.proofs.Common.{arith, sym, get_or-drop}
+use Rattle.std.proofs.lemmas.Grind.{common_steps}
 use Rattle.base.specs.Window.{byte_at}
 use Rattle.base.proofs.WindowLaws.{byte_past}
-use Rattle.std.proofs.Common.{rules}
 use Rattle.base.proofs.byte_after.Goals as goal
 
-pub returns-then-a-i : goal.returns-then-a-i
-returns-then-a-i c = sym (byte_past _ _ (omega arith))
-
-pub returns-then-a-i-2 : goal.returns-then-a-i-2
-returns-then-a-i-2 c = sym (byte_past _ _ (omega arith))
+pub returns-in_default : goal.returns-in_default
+returns-in_default c = sym (byte_past _ _ (grind (arith, common_steps)))
 
 pub returns : goal.returns
 unfolding byte_at
-returns c = search rules
+returns c = grind (arith, common_steps, get_or-drop c.args.i c.args.a.now c.args.k 0)

@@ -1,25 +1,18 @@
-use native.Mathlib.Omega.{arith}
-use mathlib.Core.Path.{◌∙◌, sym}
-use Rattle.base.proofs.ByteLaws.{stood-first, stood_next, stood-end, stood-short, stood_none}
+-- `has_at`: past the end nothing stands but nothing.
+use Rattle.std.proofs.Common.{rules, ◌≡◌, ◌<◌, ◌∙◌, arith, sym, length, drop}
+use Rattle.std.proofs.lemmas.Grind.{common_steps}
+use Rattle.std.proofs.lemmas.Slice.{between_to_end}
+use Rattle.base.proofs.ByteLaws.{stood, stood_none}
 use Rattle.base.proofs.has_at.Goals as goal
 
-pub returns-then-s-at : goal.returns-then-s-at
-returns-then-s-at c = let p = c.args in sym (stood_none p.s.now p.w.now p.at c.if-s-at.true)
+pub returns-in-Some : goal.returns-in-Some
+returns-in-Some c =
+    let a = c.args in
+    let e : c.in-Some.rest.now ≡ drop a.at a.s.now = grind (arith, common_steps, between_to_end a.s.now a.at (length a.s.now)) in
+    search (rules, stood a.s.now a.w.now c.in-Some.rest.now a.at e)
 
-pub returns-then-s-at-2 : goal.returns-then-s-at-2
-returns-then-s-at-2 c = let p = c.args in sym (stood-short p.s.now p.w.now p.at c.if-s-at-2.true)
-
-pub loop-k-init : goal.loop-k-init
-loop-k-init c = let p = c.args in (omega arith, stood-first p.s.now p.w.now p.at)
-
-pub loop-k-preserved : goal.loop-k-preserved
-loop-k-preserved c =
-    let l = c.loop-k in
-    let p = c.args in
-    (omega arith, l.invariant.1 ∙ stood_next p.s.now p.w.now p.at l.k l.all (omega arith) (omega arith))
-
-pub returns : goal.returns
-returns c =
-    let l = c.loop-k in
-    let p = c.args in
-    sym (l.invariant.1 ∙ stood-end p.s.now p.w.now p.at l.k l.all (omega arith))
+pub returns-in-None : goal.returns-in-None
+returns-in-None c =
+    let a = c.args in
+    let h : length a.s.now < a.at = grind (arith, common_steps) in
+    c.is_empty.ensures ∙ sym (stood_none a.s.now a.w.now a.at (omega arith))

@@ -1,22 +1,16 @@
-use native.Mathlib.Omega.{arith}
-use mathlib.Core.Path.{◌∙◌, sym}
-use Rattle.base.proofs.WindowLaws.{window-apart, window-next, window-end, window-start}
+use Rattle.std.proofs.Common.{rules, ◌≡◌, ◌+◌, ◌∙◌, arith, tests}
+use Rattle.std.proofs.lemmas.Iterator.{YieldsList-from_range}
+use Rattle.std.proofs.lemmas.Iterator.Search.{all_from_yields_List}
+use lib.Dec.{eqb}
+use Rattle.base.specs.Window.{byte_at}
+use Rattle.base.proofs.WindowLaws.{windows-compared}
 use Rattle.base.proofs.same_window.Goals as goal
-
-pub loop-k-init : goal.loop-k-init
-loop-k-init c = (omega arith, window-start _ _ _ _ _)
-
-pub returns-then-byte_after : goal.returns-then-byte_after
-returns-then-byte_after c =
-    let l = c.loop-k in
-    sym (l.invariant.1 ∙ window-apart _ _ _ _ _ l.k (omega arith) (λ e. c.if-byte_after.true (c.byte_after.ensures ∙ e ∙ sym c.byte_after-in-loop-k.ensures)))
-
-pub loop-k-preserved : goal.loop-k-preserved
-loop-k-preserved c =
-    let l = c.loop-k in
-    (omega arith, l.invariant.1 ∙ window-next _ _ _ _ _ l.k (omega arith) (sym c.byte_after.ensures ∙ c.if-byte_after.false ∙ c.byte_after-in-loop-k.ensures))
 
 pub returns : goal.returns
 returns c =
-    let l = c.loop-k in
-    sym (l.invariant.1 ∙ window-end _ _ _ _ _ l.k (omega arith))
+    let p = c.args in
+    let e : p.i + 0 ≡ p.i = omega arith in
+    let f : p.j + 0 ≡ p.j = omega arith in
+    all_from_yields_List (λ k. eqb (byte_at p.a.now (p.i + k)) (byte_at p.b.now (p.j + k))) _ _ _ c.all.ensures.ran
+    (YieldsList-from_range 0 p.n p.n (cc) (omega arith)) (λ x b q k. search (rules, tests))
+    ∙ rw (windows-compared p.a.now p.b.now p.i p.j 0 p.n, e, f)
