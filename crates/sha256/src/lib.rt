@@ -119,14 +119,13 @@ fn round(v: Hash, k: u32, w: u32) -> Hash
     }
 }
 
-// All rounds of a block. The constants are copied before the loop: `K[t]` would copy them at every turn.
+// All rounds of a block. The constants are taken once before the loop: `K[t]` would copy them at every turn.
 fn all_rounds(h: Hash, w: [u32; ROUNDS]) -> Hash
     ensures { result ≡ rounds h constants w }
 {
-    let k = constants::K;
     let mut v = h;
-    for t in 0..ROUNDS {
-        v = round(v, k[t], w[t]);
+    for (k, word) in constants::K.iter().zip(&w) {
+        v = round(v, *k, *word);
     }
     v
 }
