@@ -1,45 +1,48 @@
 -- The number of each answer: 01's table, A1 and A8.
-use Rattle.std.specs.Prelude.{ℕ}
-use Rattle.answers.specs.declared.Answer.{Answer}
-use Rattle.answers.specs.declared.Answer.TheVariants.{Accepted, TooLong, NotText, BadForm, OtherSpec, BadArgument, NotHeld, HeldExpired, OtherContent, FewHeldKeys, FewOwnKeys, WrongVersion, NoNews, WentBack, FileExpired, NotListed, OtherKeyid, EarlierStart}
+use Rattle.std.specs.Prelude.{ℕ, Result, Ok, Err, ⊤}
+use Rattle.answers.specs.declared.Refusal.{Refusal}
+use Rattle.answers.specs.declared.Refusal.TheVariants.{TooLong, NotText, BadForm, OtherSpec, BadArgument, NotHeld, HeldExpired, OtherContent, FewHeldKeys, FewOwnKeys, WrongVersion, NoNews, WentBack, FileExpired, NotListed, OtherKeyid, EarlierStart}
 
-abbrev pub number_of : Answer → ℕ
--- "0 if none"
-number_of Accepted = 0
+abbrev pub refusal_number : Refusal → ℕ
 -- "file longer than 32,768 bytes"
-number_of TooLong = 1
+refusal_number TooLong = 1
 -- "not canonical text, empty input included"
-number_of NotText = 2
+refusal_number NotText = 2
 -- "a form above is broken"
-number_of BadForm = 3
+refusal_number BadForm = 3
 -- "spec_version"
-number_of OtherSpec = 4
+refusal_number OtherSpec = 4
 -- "a verdict row of another length than the entries, a verdict not 0 or 1, a digest not 32 bytes"
-number_of BadArgument = 5
+refusal_number BadArgument = 5
 -- "a record the step needs is not held, or not current"
-number_of NotHeld = 6
+refusal_number NotHeld = 6
 -- "a record the step leans on has expired"
-number_of HeldExpired = 7
+refusal_number HeldExpired = 7
 -- "length or digest differs from what is listed"
-number_of OtherContent = 8
+refusal_number OtherContent = 8
 -- "too few different keys of the held root"
-number_of FewHeldKeys = 9
+refusal_number FewHeldKeys = 9
 -- "too few different keys of the new root itself"
-number_of FewOwnKeys = 10
+refusal_number FewOwnKeys = 10
 -- "wrong version"
-number_of WrongVersion = 11
+refusal_number WrongVersion = 11
 -- "same timestamp version: normal, no news"
-number_of NoNews = 12
+refusal_number NoNews = 12
 -- "a listed version went back, or a name vanished"
-number_of WentBack = 13
+refusal_number WentBack = 13
 -- "the offered file has expired"
-number_of FileExpired = 14
+refusal_number FileExpired = 14
 -- "not listed"
-number_of NotListed = 15
+refusal_number NotListed = 15
 -- A1: a keyid in a key table is not the digest of its key
-number_of OtherKeyid = 16
+refusal_number OtherKeyid = 16
 -- A8: a new cycle's start time is earlier than the latest one that the state has had
-number_of EarlierStart = 17
+refusal_number EarlierStart = 17
+
+abbrev pub number_of : Result ⊤ Refusal → ℕ
+-- "0 if none"
+number_of (Ok _) = 0
+number_of (Err r) = refusal_number r
 
 -- the highest number of an answer
 abbrev pub highest : ℕ

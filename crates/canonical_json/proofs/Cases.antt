@@ -5,8 +5,10 @@ use mathlib.Core.Bool.{Bool, true, false}
 use Prim.Native.Nat.{ℕ}
 use Rattle.base.specs.Bytes.{Bytes}
 use Rattle.canonical_json.specs.Read.{Got, bad, got, then, choose, front, led}
-use Rattle.canonical_json.specs.declared.LeadByte.{LeadByte}
-use Rattle.canonical_json.specs.declared.LeadByte.TheVariants.{Bad, Seq}
+use Rattle.std.specs.declared.option.Option.{Option}
+use Rattle.canonical_json.specs.declared.Sequence.{Sequence}
+use Rattle.canonical_json.specs.Lead.{seq}
+use Rattle.std.specs.declared.option.Option.TheVariants.{None, Some}
 
 pub choose-elim : {A : Type 0} (P : A → Type 0) (b : Bool) (f g : Unit {0} → A) → (b ≡ true → P (f tt)) → (b ≡ false → P (g tt)) → P (choose b f g)
 choose-elim P true f g x y = x refl
@@ -20,9 +22,9 @@ pub front-elim : {B : Type 0} (P : Got B → Type 0) (t : Bytes) (k : ℕ → By
 front-elim P [] k x y = x
 front-elim P (c ∷ r) k x y = y c r refl
 
-pub led-elim : {B : Type 0} (P : Got B → Type 0) (l : LeadByte) (k : ℕ → ℕ → ℕ → Got B) → P bad → ((m lo hi : ℕ) → l ≡ Seq m lo hi → P (k m lo hi)) → P (led l k)
-led-elim P Bad k x y = x
-led-elim P (Seq m lo hi) k x y = y m lo hi refl
+pub led-elim : {B : Type 0} (P : Got B → Type 0) (l : Option Sequence) (k : ℕ → ℕ → ℕ → Got B) → P bad → ((m lo hi : ℕ) → l ≡ seq m lo hi → P (k m lo hi)) → P (led l k)
+led-elim P None k x y = x
+led-elim P (Some l) k x y = y l.more l.lo l.hi refl
 
 pub choose_cong : {A : Type 0} (b : Bool) (f g f' g' : Unit {0} → A) → f tt ≡ f' tt → g tt ≡ g' tt → choose b f g ≡ choose b f' g'
 choose_cong true f g f' g' x y = x

@@ -10,12 +10,11 @@ use lib.Dec.{eqb}
 use borrow.Author.Tests.{ne_eqb, le-leb, lt-leb}
 use Rattle.base.specs.Bytes.{Bytes}
 use Rattle.base.proofs.PlaceLaws.{at-cons, at-end}
-use Rattle.canonical_json.specs.Lead.{lead_of, within}
+use Rattle.canonical_json.specs.Lead.{seq, lead_of, within}
 use Rattle.canonical_json.specs.Read.{Got, bad, got, end_of, also, choose, led, chars, esc, read_str}
 use Rattle.canonical_json.specs.Strings.{Skips}
-use Rattle.canonical_json.specs.declared.Skip.{Skip}
-use Rattle.canonical_json.specs.declared.Skip.TheVariants.{No, End}
-use Rattle.canonical_json.specs.declared.LeadByte.TheVariants.{Bad, Seq}
+use Rattle.std.specs.declared.option.Option.{Option}
+use Rattle.std.specs.declared.option.Option.TheVariants.{None, Some}
 use Rattle.canonical_json.specs.Json.{is_escaped}
 use Rattle.canonical_json.proofs.Place.{ends_at, ends-also}
 use Rattle.canonical_json.proofs.Rows.{found}
@@ -56,36 +55,36 @@ spent s i m lo hi z = rw (z, chars-done)
 grown : (n b : ℕ) (g : Got (Bytes)) → end_of n (also (λ (t : Bytes). b ∷ t) g) ≡ end_of n g
 grown n b g = ends-also n (λ (t : Bytes). b ∷ t) g
 
-pub over : (s : Bytes) (i m lo hi : ℕ) → length s ≤ i → end_of (length s) (chars (drop i s) m lo hi) ≡ No
+pub over : (s : Bytes) (i m lo hi : ℕ) → length s ≤ i → end_of (length s) (chars (drop i s) m lo hi) ≡ None
 over s i m lo hi h = rw (at-end s i h, chars-nil)
 
 module _ (s : Bytes) (i : ℕ) where
   -- after a backslash
-  pub lone : length s ≤ i → end_of (length s) (esc (drop i s)) ≡ No
+  pub lone : length s ≤ i → end_of (length s) (esc (drop i s)) ≡ None
   lone h = rw (at-end s i h, esc-nil)
 
   module _ (h : i < length s) where
     pub escaped : (c : ℕ) → get_or s i 0 ≡ c → is_escaped c ≡ true → end_of (length s) (esc (drop i s)) ≡ end_of (length s) (read_str (drop (i + 1) s))
     escaped c e f = rw (at-cons s i h, e, esc-cons, f) (grown (length s) c (read_str (drop (i + 1) s)))
 
-    pub stray : (get_or s i 0 ≡ 34 → ⊥) → (get_or s i 0 ≡ 92 → ⊥) → end_of (length s) (esc (drop i s)) ≡ No
+    pub stray : (get_or s i 0 ≡ 34 → ⊥) → (get_or s i 0 ≡ 92 → ⊥) → end_of (length s) (esc (drop i s)) ≡ None
     stray f g = rw (at-cons s i h, esc-cons, ne_eqb _ _ f, ne_eqb _ _ g)
 
     -- between characters
-    pub quote : get_or s i 0 ≡ 34 → end_of (length s) (read_str (drop i s)) ≡ End (i + 1)
+    pub quote : get_or s i 0 ≡ 34 → end_of (length s) (read_str (drop i s)) ≡ Some (i + 1)
     quote e = rw (at-cons s i h, e, chars-start) (ends_at {A = Bytes} s (i + 1) [] (omega arith))
 
     pub backslash : get_or s i 0 ≡ 92 → end_of (length s) (read_str (drop i s)) ≡ end_of (length s) (esc (drop (i + 1) s))
     backslash e = rw (at-cons s i h, e, chars-start)
 
     module _ (f : get_or s i 0 ≡ 34 → ⊥) (g : get_or s i 0 ≡ 92 → ⊥) where
-      pub no_lead : lead_of (get_or s i 0) ≡ Bad → end_of (length s) (read_str (drop i s)) ≡ No
+      pub no_lead : lead_of (get_or s i 0) ≡ None → end_of (length s) (read_str (drop i s)) ≡ None
       no_lead e = rw (at-cons s i h, chars-start, ne_eqb _ _ f, ne_eqb _ _ g, e)
 
-      pub begun : (m lo hi : ℕ) → lead_of (get_or s i 0) ≡ Seq m lo hi → end_of (length s) (read_str (drop i s)) ≡ end_of (length s) (chars (drop (i + 1) s) m lo hi)
+      pub begun : (m lo hi : ℕ) → lead_of (get_or s i 0) ≡ seq m lo hi → end_of (length s) (read_str (drop i s)) ≡ end_of (length s) (chars (drop (i + 1) s) m lo hi)
       begun m lo hi e = rw (at-cons s i h, chars-start, ne_eqb _ _ f, ne_eqb _ _ g, e) (grown (length s) (get_or s i 0) (chars (drop (i + 1) s) m lo hi))
 
-      pub control : get_or s i 0 < 32 → end_of (length s) (read_str (drop i s)) ≡ No
+      pub control : get_or s i 0 < 32 → end_of (length s) (read_str (drop i s)) ≡ None
       control h = no_lead (sym (found 0 0 (get_or s i 0) (omega arith) refl (omega arith)))
 
       pub plain : 32 ≤ get_or s i 0 → get_or s i 0 ≤ 127 → end_of (length s) (read_str (drop i s)) ≡ end_of (length s) (read_str (drop (i + 1) s))
@@ -93,11 +92,11 @@ module _ (s : Bytes) (i : ℕ) where
 
 -- inside a character, of which m bytes are to come
 module _ (s : Bytes) (i : ℕ) (h : i < length s) where
-  pub low : (m lo hi : ℕ) → 0 < m → get_or s i 0 < lo → end_of (length s) (chars (drop i s) m lo hi) ≡ No
+  pub low : (m lo hi : ℕ) → 0 < m → get_or s i 0 < lo → end_of (length s) (chars (drop i s) m lo hi) ≡ None
   low zero lo hi z f = absurd (omega arith)
   low (suc m) lo hi z f = rw (at-cons s i h, chars-more, lt-leb lo (get_or s i 0) f)
 
-  pub high : (m lo hi : ℕ) → 0 < m → lo ≤ get_or s i 0 → hi < get_or s i 0 → end_of (length s) (chars (drop i s) m lo hi) ≡ No
+  pub high : (m lo hi : ℕ) → 0 < m → lo ≤ get_or s i 0 → hi < get_or s i 0 → end_of (length s) (chars (drop i s) m lo hi) ≡ None
   high zero lo hi z f g = absurd (omega arith)
   high (suc m) lo hi z f g = rw (at-cons s i h, chars-more, le-leb lo (get_or s i 0) f, lt-leb (get_or s i 0) hi g)
 
@@ -107,6 +106,6 @@ module _ (s : Bytes) (i : ℕ) (h : i < length s) where
 
 -- ## What one function passed on is passed on by another
 
-pub skips_from : (s : Bytes) (g h : Got (Bytes)) (k : ℕ) (r : Skip) → end_of (length s) g ≡ end_of (length s) h → Skips s h k r → Skips s g k r
-skips_from s g h k No e p = e ∙ p
-skips_from s g h k (End j) e p = (e ∙ p.0, p.1)
+pub skips_from : (s : Bytes) (g h : Got (Bytes)) (k : ℕ) (r : Option ℕ) → end_of (length s) g ≡ end_of (length s) h → Skips s h k r → Skips s g k r
+skips_from s g h k None e p = e ∙ p
+skips_from s g h k (Some j) e p = (e ∙ p.0, p.1)

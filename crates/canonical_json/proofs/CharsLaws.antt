@@ -8,11 +8,12 @@ use lib.Dec.{eqb, leb}
 use borrow.Author.Tests.{ne_eqb, eqb-true, leb-true}
 use Rattle.base.specs.Bytes.{Bytes}
 use Rattle.base.proofs.TestLaws.{never, both, neither as neither-of}
-use Rattle.canonical_json.specs.Lead.{lead_of, look, table, Row, within, wf}
+use Rattle.canonical_json.specs.Lead.{seq, lead_of, look, table, Row, within, wf}
 use Rattle.canonical_json.specs.Json.{put_bytes, is_escaped}
 use Rattle.canonical_json.specs.Read.{got, chars, esc}
-use Rattle.canonical_json.specs.declared.LeadByte.{LeadByte}
-use Rattle.canonical_json.specs.declared.LeadByte.TheVariants.{Bad, Seq}
+use Rattle.std.specs.declared.option.Option.{Option}
+use Rattle.canonical_json.specs.declared.Sequence.{Sequence}
+use Rattle.std.specs.declared.option.Option.TheVariants.{None, Some}
 use Rattle.canonical_json.proofs.Cases.{choose-elim, led-elim}
 use Rattle.canonical_json.proofs.Chars.{chars-nil, chars-start, chars-more, esc-nil, esc-cons}
 use Rattle.canonical_json.proofs.Says.{Says, says-bad, says-got, says-also}
@@ -22,9 +23,9 @@ use Rattle.canonical_json.proofs.Says.{Says, says-bad, says-got, says-also}
 abbrev pub Ready : ℕ → ℕ → Type 0
 Ready m lo = (m ≡ 0 → ⊥) → 128 ≤ lo
 
-abbrev ready_b : LeadByte → Bool
-ready_b Bad = true
-ready_b (Seq m l h) = eqb m 0 || leb 128 l
+abbrev ready_b : Option Sequence → Bool
+ready_b None = true
+ready_b (Some l) = eqb l.more 0 || leb 128 l.lo
 
 abbrev all_ready : List Row → Bool
 all_ready [] = true
@@ -39,18 +40,18 @@ look_ready (r ∷ rs) b e = go (leb b r.upto) (ready_b r.start) (look_ready rs b
     go false true k f e = k e
     go x false k f e = never (sym e)
 
-pub lead_ready : (b m l h : ℕ) → lead_of b ≡ Seq m l h → Ready m l
+pub lead_ready : (b m l h : ℕ) → lead_of b ≡ seq m l h → Ready m l
 unfolding lead_of
 lead_ready b m l h e n =
-    let z : ready_b (Seq m l h) ≡ true = rw e at (look_ready table b refl) in
+    let z : ready_b (seq m l h) ≡ true = rw e at (look_ready table b refl) in
     leb-true 128 l (rw (ne_eqb m 0 n) at z)
 
 -- the bytes that are escaped begin and end a character
-pub special_lead : (b : ℕ) → is_escaped b ≡ true → lead_of b ≡ Seq 0 0 0
+pub special_lead : (b : ℕ) → is_escaped b ≡ true → lead_of b ≡ seq 0 0 0
 unfolding lead_of
 special_lead b e = go (eqb b 34) refl e
   where
-    go : (x : Bool) → eqb b 34 ≡ x → x || eqb b 92 ≡ true → lead_of b ≡ Seq 0 0 0
+    go : (x : Bool) → eqb b 34 ≡ x → x || eqb b 92 ≡ true → lead_of b ≡ seq 0 0 0
     go true f e = rw (eqb-true b 34 f)
     go false f e = rw (eqb-true b 92 e)
 
@@ -106,17 +107,17 @@ chars-complete [] zero lo hi r k w = rw chars-start
 chars-complete [] (suc m) lo hi r k w = never (sym w)
 chars-complete (b ∷ bs) zero lo hi r k w = go (is_escaped b) refl (lead_of b) refl (λ m l h. chars-complete bs m l h r)
   where
-    go : (x : Bool) → is_escaped b ≡ x → (y : LeadByte) → lead_of b ≡ y
+    go : (x : Bool) → is_escaped b ≡ x → (y : Option Sequence) → lead_of b ≡ y
         → ((m l h : ℕ) → Ready m l → wf bs m l h ≡ true → chars (put_bytes bs (34 ∷ r)) m l h ≡ got bs r)
         → chars (cond (is_escaped b) (92 ∷ b ∷ put_bytes bs (34 ∷ r)) (b ∷ put_bytes bs (34 ∷ r))) 0 lo hi ≡ got (b ∷ bs) r
     go true f y g ih =
         let v : wf bs 0 0 0 ≡ true = rw (special_lead b f) at w in
         rw (f, chars-start, esc-cons, f, ih 0 0 0 (λ n. absurd (n refl)) v)
-    go false f Bad g ih = let v : false ≡ true = rw g at w in never (sym v)
-    go false f (Seq m l h) g ih =
-        let v : wf bs m l h ≡ true = rw g at w in
+    go false f None g ih = let v : false ≡ true = rw g at w in never (sym v)
+    go false f (Some x) g ih =
+        let v : wf bs x.more x.lo x.hi ≡ true = rw g at w in
         let n = neither b f in
-        rw (f, chars-start, n.0, n.1, g, ih m l h (lead_ready b m l h g) v)
+        rw (f, chars-start, n.0, n.1, g, ih x.more x.lo x.hi (lead_ready b x.more x.lo x.hi g) v)
 chars-complete (b ∷ bs) (suc m) lo hi r k w =
     let e = both (within lo hi b) (wf bs m 128 191) w in
     rw (plain b (above b m lo hi k e.0), chars-more, e.0, chars-complete bs m 128 191 r (λ _. omega arith) e.1)

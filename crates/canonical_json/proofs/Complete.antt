@@ -1,7 +1,8 @@
 -- What is written is read: the reader finds each valid value in its canonical text.
 use mathlib.Core.Path.{◌≡◌, refl, sym, ◌∙◌}
 use mathlib.Core.List.{[], ◌∷◌, ◌++◌}
-use mathlib.Core.Option.{Option, none, some}
+use Rattle.std.specs.declared.option.Option.{Option}
+use Rattle.std.specs.declared.option.Option.TheVariants.{None, Some}
 use mathlib.Core.Bool.{Bool, true, false, cond, not, ◌&&◌}
 use Prim.Native.Nat.{ℕ, zero, suc}
 use native.Mathlib.Omega.{arith}
@@ -117,11 +118,11 @@ mutual
       )
 
   complete-members : (ms : Members) (d : ℕ) (r : Bytes) → ValidMembers ms d → object (read d) (put_members ms (125 ∷ r)) ≡ got ms r
-  complete-members mnil d r g = rw members-nil (body-close (member (read d)) named mnil mcons' 125 none r)
+  complete-members mnil d r g = rw members-nil (body-close (member (read d)) named mnil mcons' 125 None r)
   complete-members (mcons n v ms) d r g =
       rw members-cons
-      (body_open (member (read d)) named mnil mcons' 125 none (put_str n (58 ∷ put v (put_more_members ms (125 ∷ r)))) 34 _ refl (eqb-false 34 125 refl)
-      ∙ complete-more-members ms d r n g.2 none refl g.0 v (λ R f. complete v d R g.1 f))
+      (body_open (member (read d)) named mnil mcons' 125 None (put_str n (58 ∷ put v (put_more_members ms (125 ∷ r)))) 34 _ refl (eqb-false 34 125 refl)
+      ∙ complete-more-members ms d r n g.2 None refl g.0 v (λ R f. complete v d R g.1 f))
 
   complete-more-members : (ms : Members) (d : ℕ) (r n : Bytes) → ValidMore n ms d → (p : Option (Bytes)) → rises p n ≡ true → ValidStr n
       → (v : Json) → ((R : Bytes) → NoDigit R → read d (put v R) ≡ got v R)
@@ -137,7 +138,7 @@ mutual
         more-members-cons,
         elements-step (member (read d)) named mnil mcons' 125 (member-fits (read d) (read_fits d)) p (put_str n (58 ∷ put v (44 ∷ put_str m (58 ∷ put w (put_more_members ms (125 ∷ r)))))),
         member-read (read d) p n v (44 ∷ put_str m (58 ∷ put w (put_more_members ms (125 ∷ r)))) h k (hv (44 ∷ put_str m (58 ∷ put w (put_more_members ms (125 ∷ r)))) refl),
-        complete-more-members ms d r m g.3 (some n) g.0 g.1 w (λ R f. complete w d R g.2 f),
+        complete-more-members ms d r m g.3 (Some n) g.0 g.1 w (λ R f. complete w d R g.2 f),
       )
 
 -- an object ends by itself, whatever follows

@@ -10,8 +10,8 @@ use Rattle.base.specs.Bytes.{Bytes, bytes, less}
 use Rattle.canonical_json.specs.Lead.{lead_of}
 use Rattle.canonical_json.specs.Json.{Canonical, max_depth}
 use Rattle.canonical_json.specs.Read.{end_of, read, kind_of, chars, digits, number, loop, body, member}
-use Rattle.canonical_json.specs.declared.Skip.{Skip}
-use Rattle.canonical_json.specs.declared.Skip.TheVariants.{No, End}
+use Rattle.std.specs.declared.option.Option.{Option}
+use Rattle.std.specs.declared.option.Option.TheVariants.{None, Some}
 use Rattle.canonical_json.proofs.Canonical.{verdict-no, verdict-end}
 
 -- each text, and whether it is canonical
@@ -34,9 +34,9 @@ Right [] = Unit {0}
 Right (c ∷ cs) = ((c.1 ≡ true) ↔ Canonical max_depth c.0) × Right cs
 
 -- what the reader says of a text
-abbrev ends : ℕ → Skip → Bool
-ends n No = false
-ends n (End e) = eqb e n
+abbrev ends : ℕ → Option ℕ → Bool
+ends n None = false
+ends n (Some e) = eqb e n
 
 verdict : Bytes → Bool
 verdict t = ends (length t) (end_of (length t) (read max_depth t))
@@ -45,9 +45,9 @@ decides : (t : Bytes) → (verdict t ≡ true) ↔ Canonical max_depth t
 unfolding verdict
 decides t = go (end_of (length t) (read max_depth t)) refl
   where
-    go : (x : Skip) → end_of (length t) (read max_depth t) ≡ x → (ends (length t) x ≡ true) ↔ Canonical max_depth t
-    go No e = verdict-no max_depth t e
-    go (End k) e = verdict-end max_depth t k e
+    go : (x : Option ℕ) → end_of (length t) (read max_depth t) ≡ x → (ends (length t) x ≡ true) ↔ Canonical max_depth t
+    go None e = verdict-no max_depth t e
+    go (Some k) e = verdict-end max_depth t k e
 
 all : (cs : List (Bytes × Bool)) → map (λ c. verdict c.0) cs ≡ map (λ c. c.1) cs → Right cs
 all [] e = tt

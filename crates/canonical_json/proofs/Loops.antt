@@ -1,6 +1,6 @@
 -- The reading of elements between commas, at places of the text.
 use mathlib.Core.Path.{◌≡◌}
-use mathlib.Core.Option.{Option}
+use Rattle.std.specs.declared.option.Option.{Option}
 use Prim.Native.Nat.{ℕ, ◌≤◌, ◌<◌, ◌+◌}
 use native.Mathlib.Omega.{arith}
 use lib.ListN.{length, drop, get_or}
@@ -10,7 +10,7 @@ use Rattle.base.specs.Bytes.{Bytes}
 use Rattle.base.proofs.PlaceLaws.{at-cons, at-end}
 use Rattle.canonical_json.specs.Json.{Json, Items, inil, icons, Members, mnil}
 use Rattle.canonical_json.specs.Read.{Got, bad, got, end_of, also, then, front, choose, loop, elements, body, item, same, Member, member, named, mcons', read}
-use Rattle.canonical_json.specs.declared.Skip.TheVariants.{No, End}
+use Rattle.std.specs.declared.option.Option.TheVariants.{None, Some}
 use Rattle.canonical_json.proofs.Place.{ends_at, ends-also}
 use Rattle.canonical_json.proofs.Rest.{Fits, Located, located, refused, elements-step, read_fits, member-fits}
 
@@ -61,11 +61,11 @@ module _ {P A B : Type 0} (l : Shape P A B) (s : Bytes) (p : P) where
   unfolding loop
   spent' i h = rw (at-end s i h)
 
-  pub no_element' : (i : ℕ) → end_of (length s) (l.rd p (drop i s)) ≡ No → elements_of l p (drop i s) ≡ bad
+  pub no_element' : (i : ℕ) → end_of (length s) (l.rd p (drop i s)) ≡ None → elements_of l p (drop i s) ≡ bad
   no_element' i h = rw (step p (drop i s), refused (length s) (l.rd p (drop i s)) h)
 
   -- what follows the element at `i`, which ends at `e`
-  module _ (i e : ℕ) (h : end_of (length s) (l.rd p (drop i s)) ≡ End e) where
+  module _ (i e : ℕ) (h : end_of (length s) (l.rd p (drop i s)) ≡ Some e) where
     pub element : Located s i (l.rd p (drop i s)) e
     element = located s i e (l.fits p (drop i s)) h
 
@@ -83,29 +83,29 @@ module _ {P A B : Type 0} (l : Shape P A B) (s : Bytes) (p : P) where
     onward' o f g = rw (step p (drop i s), element.is, at-cons s e o, ne_eqb _ _ f, eq-eqb _ _ g)
 
   -- ## The same, of where a reading ends
-  pub over : (i : ℕ) → length s ≤ i → end_of (length s) (body_of l p (drop i s)) ≡ No
+  pub over : (i : ℕ) → length s ≤ i → end_of (length s) (body_of l p (drop i s)) ≡ None
   over i h = rw (over' i h)
 
-  pub empty : (i : ℕ) → i < length s → get_or s i 0 ≡ l.close → end_of (length s) (body_of l p (drop i s)) ≡ End (i + 1)
+  pub empty : (i : ℕ) → i < length s → get_or s i 0 ≡ l.close → end_of (length s) (body_of l p (drop i s)) ≡ Some (i + 1)
   empty i h e = rw (empty' i h e) (ends_at s (i + 1) l.nil (omega arith))
 
   pub begun : (i : ℕ) → i < length s → (get_or s i 0 ≡ l.close → ⊥) → end_of (length s) (body_of l p (drop i s)) ≡ end_of (length s) (elements_of l p (drop i s))
   begun i h f = rw (begun' i h f)
 
-  pub spent : (i : ℕ) → length s ≤ i → end_of (length s) (elements_of l p (drop i s)) ≡ No
+  pub spent : (i : ℕ) → length s ≤ i → end_of (length s) (elements_of l p (drop i s)) ≡ None
   spent i h = rw (spent' i h)
 
-  pub no-element : (i : ℕ) → end_of (length s) (l.rd p (drop i s)) ≡ No → end_of (length s) (elements_of l p (drop i s)) ≡ No
+  pub no-element : (i : ℕ) → end_of (length s) (l.rd p (drop i s)) ≡ None → end_of (length s) (elements_of l p (drop i s)) ≡ None
   no-element i h = rw (no_element' i h)
 
-  module _ (i e : ℕ) (h : end_of (length s) (l.rd p (drop i s)) ≡ End e) where
-    pub cut : length s ≤ e → end_of (length s) (elements_of l p (drop i s)) ≡ No
+  module _ (i e : ℕ) (h : end_of (length s) (l.rd p (drop i s)) ≡ Some e) where
+    pub cut : length s ≤ e → end_of (length s) (elements_of l p (drop i s)) ≡ None
     cut o = rw (cut' i e h o)
 
-    pub last : e < length s → get_or s e 0 ≡ l.close → end_of (length s) (elements_of l p (drop i s)) ≡ End (e + 1)
+    pub last : e < length s → get_or s e 0 ≡ l.close → end_of (length s) (elements_of l p (drop i s)) ≡ Some (e + 1)
     last o f = rw (last' i e h o f) (ends_at s (e + 1) (l.cons (element i e h).value l.nil) (omega arith))
 
-    pub stray : e < length s → (get_or s e 0 ≡ l.close → ⊥) → (get_or s e 0 ≡ 44 → ⊥) → end_of (length s) (elements_of l p (drop i s)) ≡ No
+    pub stray : e < length s → (get_or s e 0 ≡ l.close → ⊥) → (get_or s e 0 ≡ 44 → ⊥) → end_of (length s) (elements_of l p (drop i s)) ≡ None
     stray o f g = rw (stray' i e h o f g)
 
     pub onward : e < length s → (get_or s e 0 ≡ l.close → ⊥) → get_or s e 0 ≡ 44

@@ -1,7 +1,8 @@
 -- The reading of a member, at places of the text.
 use mathlib.Core.Path.{◌≡◌, refl, sym, ap, ◌∙◌}
 use mathlib.Core.List.{[], ◌∷◌}
-use mathlib.Core.Option.{Option, some}
+use Rattle.std.specs.declared.option.Option.{Option}
+use Rattle.std.specs.declared.option.Option.TheVariants.{Some}
 use mathlib.Core.Bool.{true, false}
 use Prim.Native.Nat.{ℕ, ◌≤◌, ◌<◌, ◌+◌}
 use lib.ListN.{length, drop, get_or}
@@ -12,7 +13,7 @@ use Rattle.base.specs.Bytes.{Bytes}
 use Rattle.base.proofs.PlaceLaws.{at-cons, at-end}
 use Rattle.canonical_json.specs.Json.{Json}
 use Rattle.canonical_json.specs.Read.{Got, bad, got, end_of, also, read_str, Member, member, rises, raw, read}
-use Rattle.canonical_json.specs.declared.Skip.TheVariants.{No, End}
+use Rattle.std.specs.declared.option.Option.TheVariants.{None, Some}
 use Rattle.canonical_json.proofs.Place.{ends-also}
 use Rattle.canonical_json.proofs.Cases.{choose-elim, then-elim, front-elim}
 use Rattle.canonical_json.proofs.Rest.{Located, located, refused, chars-fits}
@@ -45,35 +46,35 @@ module _ (rd : Bytes → Got Json) (p : Option (Bytes)) where
     pub name-at : {e : ℕ} (l : Located s i (member rd p (drop i s)) e) → raw (drop (i + 1) s) ≡ l.value.0
     name-at l = ap raw (sym (drop-drop 1 i s)) ∙ says_of (rw l.is at (member-name (drop i s)))
 
-    pub over : length s ≤ i → end_of (length s) (member rd p (drop i s)) ≡ No
+    pub over : length s ≤ i → end_of (length s) (member rd p (drop i s)) ≡ None
     unfolding member
     over h = rw (at-end s i h)
 
-    pub no-quote : i < length s → (get_or s i 0 ≡ 34 → ⊥) → end_of (length s) (member rd p (drop i s)) ≡ No
+    pub no-quote : i < length s → (get_or s i 0 ≡ 34 → ⊥) → end_of (length s) (member rd p (drop i s)) ≡ None
     unfolding member
     no-quote h e = rw (at-cons s i h, ne_eqb (get_or s i 0) 34 e)
 
     module _ (h : i < length s) (q : get_or s i 0 ≡ 34) where
-      pub no_name : end_of (length s) (read_str (drop (i + 1) s)) ≡ No → end_of (length s) (member rd p (drop i s)) ≡ No
+      pub no_name : end_of (length s) (read_str (drop (i + 1) s)) ≡ None → end_of (length s) (member rd p (drop i s)) ≡ None
       unfolding member
       no_name e = rw (at-cons s i h, q, refused (length s) (read_str (drop (i + 1) s)) e)
 
-      module _ (e : ℕ) (n : end_of (length s) (read_str (drop (i + 1) s)) ≡ End e) where
+      module _ (e : ℕ) (n : end_of (length s) (read_str (drop (i + 1) s)) ≡ Some e) where
         name : Located s (i + 1) (read_str (drop (i + 1) s)) e
         name = located s (i + 1) e (chars-fits (drop (i + 1) s) 0 0 0) n
 
         is-raw : raw (drop (i + 1) s) ≡ name.value
         is-raw = says_of (rw name.is at (chars-raw (drop (i + 1) s) 0 0 0 (λ z. absurd (z refl))))
 
-        pub disorder : rises p (raw (drop (i + 1) s)) ≡ false → end_of (length s) (member rd p (drop i s)) ≡ No
+        pub disorder : rises p (raw (drop (i + 1) s)) ≡ false → end_of (length s) (member rd p (drop i s)) ≡ None
         unfolding member
         disorder f = let g : rises p name.value ≡ false = rw is-raw at f in rw (at-cons s i h, q, name.is, g)
 
-        pub cut : length s ≤ e → rises p (raw (drop (i + 1) s)) ≡ true → end_of (length s) (member rd p (drop i s)) ≡ No
+        pub cut : length s ≤ e → rises p (raw (drop (i + 1) s)) ≡ true → end_of (length s) (member rd p (drop i s)) ≡ None
         unfolding member
         cut o f = let g : rises p name.value ≡ true = rw is-raw at f in rw (at-cons s i h, q, name.is, g, at-end s e o)
 
-        pub no-colon : e < length s → (get_or s e 0 ≡ 58 → ⊥) → rises p (raw (drop (i + 1) s)) ≡ true → end_of (length s) (member rd p (drop i s)) ≡ No
+        pub no-colon : e < length s → (get_or s e 0 ≡ 58 → ⊥) → rises p (raw (drop (i + 1) s)) ≡ true → end_of (length s) (member rd p (drop i s)) ≡ None
         unfolding member
         no-colon o k f = let g : rises p name.value ≡ true = rw is-raw at f in rw (at-cons s i h, q, name.is, g, at-cons s e o, ne_eqb (get_or s e 0) 58 k)
 
@@ -84,8 +85,8 @@ module _ (rd : Bytes → Got Json) (p : Option (Bytes)) where
             rw (at-cons s i h, q, name.is, g, at-cons s e o, k) (ends-also (length s) (λ (x : Json). (name.value, x)) (rd (drop (e + 1) s)))
 
 -- the member at i is passed, and its name is the one that the next must follow
-pub onward : (d : ℕ) (p : Option (Bytes)) (s : Bytes) (i e : ℕ) → end_of (length s) (member (read d) p (drop i s)) ≡ End e → e < length s → (get_or s e 0 ≡ 125 → ⊥) → get_or s e 0 ≡ 44
-    → end_of (length s) (elements_of (objects d) p (drop i s)) ≡ end_of (length s) (elements_of (objects d) (some (raw (drop (i + 1) s))) (drop (e + 1) s))
+pub onward : (d : ℕ) (p : Option (Bytes)) (s : Bytes) (i e : ℕ) → end_of (length s) (member (read d) p (drop i s)) ≡ Some e → e < length s → (get_or s e 0 ≡ 125 → ⊥) → get_or s e 0 ≡ 44
+    → end_of (length s) (elements_of (objects d) p (drop i s)) ≡ end_of (length s) (elements_of (objects d) (Some (raw (drop (i + 1) s))) (drop (e + 1) s))
 onward d p s i e h o f g =
     let n = name-at (read d) p s i (loops.element (objects d) s p i e h) in
-    loops.onward (objects d) s p i e h o f g ∙ ap (λ (x : Bytes). end_of (length s) (elements_of (objects d) (some x) (drop (e + 1) s))) (sym n)
+    loops.onward (objects d) s p i e h o f g ∙ ap (λ (x : Bytes). end_of (length s) (elements_of (objects d) (Some x) (drop (e + 1) s))) (sym n)

@@ -17,7 +17,7 @@ use Rattle.canonical_json.proofs.Chars.{chars-nil, chars-start, chars-more, esc-
 use Rattle.canonical_json.proofs.Says.{Says, says-bad, says-got, says-also}
 use Rattle.canonical_json.proofs.CharsLaws.{Ready, lead_ready, above, plain, neither}
 use Rattle.canonical_json.specs.Names.{char_of, escaped_at}
-use Rattle.canonical_json.specs.declared.Char.TheVariants.{Close, Byte}
+use Rattle.std.specs.declared.option.Option.TheVariants.{None, Some}
 
 raw-nil : raw [] ≡ []
 unfolding raw
@@ -53,23 +53,23 @@ module _ (s : Bytes) (i : ℕ) where
 
   -- ## The same of the byte that `char_at` gives
 
-  pub char_over : length s ≤ i → Close ≡ char_of i (drop i s)
+  pub char_over : length s ≤ i → None ≡ char_of i (drop i s)
   unfolding char_of
   char_over h = rw (at-end s i h)
 
-  pub char_closed : i < length s → get_or s i 0 ≡ 34 → Close ≡ char_of i (drop i s)
+  pub char_closed : i < length s → get_or s i 0 ≡ 34 → None ≡ char_of i (drop i s)
   unfolding char_of
   char_closed h e = rw (at-cons s i h, e)
 
-  pub char_lone : i < length s → get_or s i 0 ≡ 92 → length s ≤ i + 1 → Close ≡ char_of i (drop i s)
+  pub char_lone : i < length s → get_or s i 0 ≡ 92 → length s ≤ i + 1 → None ≡ char_of i (drop i s)
   unfolding char_of escaped_at
   char_lone h e k = rw (at-cons s i h, e, at-end s (i + 1) k)
 
-  pub char_escaped : i < length s → get_or s i 0 ≡ 92 → i + 1 < length s → Byte (get_or s (i + 1) 0) (i + 1 + 1) ≡ char_of i (drop i s)
+  pub char_escaped : i < length s → get_or s i 0 ≡ 92 → i + 1 < length s → Some (get_or s (i + 1) 0, i + 1 + 1) ≡ char_of i (drop i s)
   unfolding char_of escaped_at
   char_escaped h e k = rw (at-cons s i h, e, at-cons s (i + 1) k)
 
-  pub char_byte : i < length s → (get_or s i 0 ≡ 34 → ⊥) → (get_or s i 0 ≡ 92 → ⊥) → Byte (get_or s i 0) (i + 1) ≡ char_of i (drop i s)
+  pub char_byte : i < length s → (get_or s i 0 ≡ 34 → ⊥) → (get_or s i 0 ≡ 92 → ⊥) → Some (get_or s i 0, i + 1) ≡ char_of i (drop i s)
   unfolding char_of
   char_byte h e f = rw (at-cons s i h, ne_eqb _ _ e, ne_eqb _ _ f)
 

@@ -5,11 +5,11 @@ use native.Mathlib.Omega.{arith}
 use lib.ListN.{length, drop, length-drop}
 use Rattle.base.specs.Bytes.{Bytes}
 use Rattle.canonical_json.specs.Read.{Got, bad, got, end_of, also}
-use Rattle.canonical_json.specs.declared.Skip.TheVariants.{End}
+use Rattle.std.specs.declared.option.Option.TheVariants.{Some}
 
 -- a reading that stops at k ends at k
-pub ends_at : {A : Type 0} (s : Bytes) (k : ℕ) (a : A) → k ≤ length s → end_of (length s) (got a (drop k s)) ≡ End k
-ends_at s k a h = ap End (omega (arith, length-drop k s))
+pub ends_at : {A : Type 0} (s : Bytes) (k : ℕ) (a : A) → k ≤ length s → end_of (length s) (got a (drop k s)) ≡ Some k
+ends_at s k a h = ap Some (omega (arith, length-drop k s))
 
 pub ends-also : {A B : Type 0} (n : ℕ) (f : A → B) (g : Got A) → end_of n (also f g) ≡ end_of n g
 ends-also n f bad = refl

@@ -1,7 +1,8 @@
 -- What a reader leaves is what it was given less some bytes at the front, at least one.
 use mathlib.Core.Path.{◌≡◌, refl, ap, ◌∙◌}
 use mathlib.Core.List.{[], ◌∷◌}
-use mathlib.Core.Option.{Option, none}
+use Rattle.std.specs.declared.option.Option.{Option}
+use Rattle.std.specs.declared.option.Option.TheVariants.{None}
 use mathlib.Core.Bool.{Bool, true, false, ◌||◌}
 use Prim.Native.Nat.{ℕ, zero, suc, ◌≤◌, ◌<◌, ◌+◌, ◌-◌}
 use native.Mathlib.Omega.{arith}
@@ -9,7 +10,7 @@ use lib.ListN.{length, drop, length-drop}
 use lib.Dec.{eqb}
 use lib.Seq.{drop-drop}
 use Rattle.base.specs.Bytes.{Bytes, bytes, is_digit}
-use Rattle.canonical_json.specs.declared.Skip.TheVariants.{No, End}
+use Rattle.std.specs.declared.option.Option.TheVariants.{None, Some}
 use Rattle.canonical_json.specs.Lead.{lead_of, within}
 use Rattle.canonical_json.specs.Json.{Json, Items, icons, inil, Members, mnil}
 use Rattle.canonical_json.specs.Read.{Got, bad, got, end_of, also, then, choose, front, expect, chars, esc, read_str, digits, number, loop, elements, body, item, same, array, rises, member, named, mcons', object, word, read, read_with, read_kind, kind_of}
@@ -172,7 +173,7 @@ module _ (rd : Bytes → Got Json) (rd-fits : (t : Bytes) → Fits t (rd t)) whe
   array-fits t = body-fits (item rd) same inil icons 93 (λ p t. rd-fits t) tt t
 
   pub object-fits : (t : Bytes) → Fits t (object rd t)
-  object-fits t = body-fits (member rd) named mnil mcons' 125 member-fits none t
+  object-fits t = body-fits (member rd) named mnil mcons' 125 member-fits None t
 
 kind-keeps : (ra : Bytes → Got Items) (ro : Bytes → Got Members) → ((t : Bytes) → Fits t (ra t)) → ((t : Bytes) → Fits t (ro t))
     → (k : Kind) (b : ℕ) (t : Bytes) → Fits (b ∷ t) (read_kind ra ro k b t)
@@ -211,7 +212,7 @@ pub record Located {A : Type 0} (s : Bytes) (i : ℕ) (g : Got A) (e : ℕ) : Ty
   pub after : i < e
   pub within : e ≤ length s
 
-pub located : {A : Type 0} (s : Bytes) (i : ℕ) {g : Got A} (e : ℕ) → Fits (drop i s) g → end_of (length s) g ≡ End e → Located s i g e
+pub located : {A : Type 0} (s : Bytes) (i : ℕ) {g : Got A} (e : ℕ) → Fits (drop i s) g → end_of (length s) g ≡ Some e → Located s i g e
 located s i e fits-bad q = let z : ◌≡◌ {A = ℕ} 0 1 = cc in absurd (omega arith)
 located s i e (fits-got {a} {r} h) q =
     let k : length s - length r ≡ e = cc in
@@ -223,6 +224,6 @@ located s i e (fits-got {a} {r} h) q =
     let p' : r ≡ drop e s = p ∙ drop-drop (e - i) i s ∙ ap (λ (n : ℕ). drop n s) j in
     record { value = a; is = ap (λ (x : Bytes). got a x) p'; after = lt; within = omega arith }
 
-pub refused : {A : Type 0} (n : ℕ) (g : Got A) → end_of n g ≡ No → g ≡ bad
+pub refused : {A : Type 0} (n : ℕ) (g : Got A) → end_of n g ≡ None → g ≡ bad
 refused n bad q = refl
 refused n (got a r) q = let z : ◌≡◌ {A = ℕ} 0 1 = cc in absurd (omega arith)

@@ -9,10 +9,10 @@ use lib.Dec.{leb}
 use borrow.Author.Tests.{leb-true, leb-false, le-leb}
 use Rattle.base.specs.Bytes.{Bytes}
 use Rattle.base.proofs.TestLaws.{never, both, cond-elim}
-use Rattle.canonical_json.specs.Lead.{lead_of, within, wf, well_led}
+use Rattle.canonical_json.specs.Lead.{seq, lead_of, within, wf, well_led}
 use Rattle.canonical_json.specs.Rfc3629.{Lead3, e0, e1_ec, ed, ee_ef, Lead4, f0, f1_f3, f4, Utf8, nothing, one, two, three, four, From32}
-use Rattle.canonical_json.specs.declared.LeadByte.{LeadByte}
-use Rattle.canonical_json.specs.declared.LeadByte.TheVariants.{Seq}
+use Rattle.std.specs.declared.option.Option.{Option}
+use Rattle.canonical_json.specs.declared.Sequence.{Sequence}
 use Rattle.canonical_json.proofs.Rows.{found}
 
 in_it : (lo hi b : ℕ) → lo ≤ b → b ≤ hi → within lo hi b ≡ true
@@ -24,7 +24,7 @@ tail-on : (b m lo hi : ℕ) (t : Bytes) → lo ≤ b → b ≤ hi → wf t m 128
 unfolding wf
 tail-on b m lo hi t h k w = rw (in_it lo hi b h k) w
 
-lead-on : (a m l h lo hi : ℕ) (t : Bytes) → Seq m l h ≡ lead_of a → wf t m l h ≡ true → wf (a ∷ t) 0 lo hi ≡ true
+lead-on : (a m l h lo hi : ℕ) (t : Bytes) → seq m l h ≡ lead_of a → wf t m l h ≡ true → wf (a ∷ t) 0 lo hi ≡ true
 unfolding wf
 lead-on a m l h lo hi t e w = rw (← e) w
 
@@ -112,7 +112,7 @@ module _ (n : ℕ) (ih : (s : Bytes) → length s ≤ n → wf s 0 0 0 ≡ true 
       let l'' = z.low in
       rw (x.is, y.is, z.is) (four (f x.byte x.low x.high) (y.low, y.high) (z.low, z.high) r.0, (q, (omega arith, (omega arith, (omega arith, r.1)))))
 
-  abbrev Row : LeadByte → Type 0
+  abbrev Row : Option Sequence → Type 0
   Row x = well_led x (λ m l h. wf t m l h) ≡ true → Is (a ∷ t)
 
   by_row : Row (lead_of a)

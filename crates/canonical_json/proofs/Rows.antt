@@ -8,10 +8,10 @@ use lib.Dec.{ltb}
 use borrow.Author.Tests.{lt-leb, le-leb, ltb-true}
 use Rattle.base.proofs.TestLaws.{both}
 use Rattle.canonical_json.specs.Lead.{Row, look, table, lead_of}
-use Rattle.canonical_json.specs.declared.LeadByte.TheVariants.{Bad}
+use Rattle.std.specs.declared.option.Option.TheVariants.{None}
 
 abbrev pub nth : ℕ → List Row → Row
-nth n [] = record { upto = 255; start = Bad }
+nth n [] = record { upto = 255; start = None }
 nth zero (r ∷ rs) = r
 nth (suc n) (r ∷ rs) = nth n rs
 

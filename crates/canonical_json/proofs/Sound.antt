@@ -1,7 +1,8 @@
 -- What is read was written: the text is the canonical text of the value that the reader finds, and the value is valid.
 use mathlib.Core.Path.{◌≡◌, refl, sym, ap, ◌∙◌}
 use mathlib.Core.List.{[], ◌∷◌}
-use mathlib.Core.Option.{Option, none, some}
+use Rattle.std.specs.declared.option.Option.{Option}
+use Rattle.std.specs.declared.option.Option.TheVariants.{None, Some}
 use mathlib.Core.Bool.{true, false}
 use mathlib.Core.Logic.{◌⊎◌, inl, inr}
 use Prim.Native.Nat.{ℕ, zero, suc}
@@ -86,18 +87,18 @@ abbrev MemberGood : ℕ → Option (Bytes) → Member → Type 0
 MemberGood d p m = (rises p m.0 ≡ true) × ValidStr m.0 × Valid m.1 d
 
 abbrev MembersGood : ℕ → Option (Bytes) → Members → Type 0
-MembersGood d none ms = ValidMembers ms d
-MembersGood d (some n) ms = ValidMore n ms d
+MembersGood d None ms = ValidMembers ms d
+MembersGood d (Some n) ms = ValidMore n ms d
 
 members-good-nil : (d : ℕ) (p : Option (Bytes)) → MembersGood d p mnil
 unfolding Valid
-members-good-nil d none = tt
-members-good-nil d (some n) = tt
+members-good-nil d None = tt
+members-good-nil d (Some n) = tt
 
-members-good-cons : (d : ℕ) (p : Option (Bytes)) (m : Member) (ms : Members) → MemberGood d p m → MembersGood d (some m.0) ms → MembersGood d p (mcons' m ms)
+members-good-cons : (d : ℕ) (p : Option (Bytes)) (m : Member) (ms : Members) → MemberGood d p m → MembersGood d (Some m.0) ms → MembersGood d p (mcons' m ms)
 unfolding Valid
-members-good-cons d none m ms g h = (g.1, g.2, h)
-members-good-cons d (some n) m ms g h = (g.0, g.1, g.2, h)
+members-good-cons d None m ms g h = (g.1, g.2, h)
+members-good-cons d (Some n) m ms g h = (g.0, g.1, g.2, h)
 
 items-good-nil : (d : ℕ) → ValidItems inil d
 unfolding Valid
@@ -140,12 +141,12 @@ module _ (d : ℕ) (rd : Bytes → Got Json) (rd-sound : (t : Bytes) → Says (W
   object_sound : (t : Bytes) → Says (WroteMembers d t) (object rd t)
   object_sound t =
       says_map
-      (body_sound (member rd) named mnil mcons' 125 put_member put_more_members (MemberGood d) (MembersGood d) more-members-nil (λ m ms r. more-members-cons m.0 m.1 ms r) (members-good-nil d) (members-good-cons d) member_sound none t)
+      (body_sound (member rd) named mnil mcons' 125 put_member put_more_members (MemberGood d) (MembersGood d) more-members-nil (λ m ms r. more-members-cons m.0 m.1 ms r) (members-good-nil d) (members-good-cons d) member_sound None t)
       (λ ms r w. go ms r w)
     where
-      go : (ms : Members) (r : Bytes) → ((ms ≡ mnil) × (t ≡ 125 ∷ r)) ⊎ Whole (member rd) named mnil mcons' 125 put_member put_more_members (MemberGood d) (MembersGood d) none t ms r → WroteMembers d t ms r
-      go ms r (inl e) = rw (e.0, members-nil) (e.1, members-good-nil d none)
-      go ms r (inr w) = rw (w.is, members-cons) (w.text, members-good-cons d none w.head w.tail w.good w.more)
+      go : (ms : Members) (r : Bytes) → ((ms ≡ mnil) × (t ≡ 125 ∷ r)) ⊎ Whole (member rd) named mnil mcons' 125 put_member put_more_members (MemberGood d) (MembersGood d) None t ms r → WroteMembers d t ms r
+      go ms r (inl e) = rw (e.0, members-nil) (e.1, members-good-nil d None)
+      go ms r (inr w) = rw (w.is, members-cons) (w.text, members-good-cons d None w.head w.tail w.good w.more)
 
 -- ## Values
 

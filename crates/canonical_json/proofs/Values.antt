@@ -9,7 +9,7 @@ use Rattle.base.specs.Bytes.{Bytes, bytes}
 use Rattle.base.proofs.PlaceLaws.{at-cons, at-end}
 use Rattle.canonical_json.specs.Json.{Items, Members, str, num, arr, obj, jtrue, jfalse, jnull}
 use Rattle.canonical_json.specs.Read.{Got, bad, end_of, also, array, object, number, read, read_with, read_kind, read_str, word, kind_of}
-use Rattle.canonical_json.specs.declared.Skip.TheVariants.{No}
+use Rattle.std.specs.declared.option.Option.TheVariants.{None}
 use Rattle.canonical_json.specs.declared.Kind.{Kind}
 use Rattle.canonical_json.specs.declared.Kind.TheVariants.{Text, Minus, Digit, Array, Object, True, False, Null, Other}
 use Rattle.canonical_json.proofs.Place.{ends-also}
@@ -28,14 +28,14 @@ read-with zero t = refl
 read-with (suc d) t = refl
 
 module _ (s : Bytes) (i d : ℕ) where
-  pub over : length s ≤ i → end_of (length s) (read d (drop i s)) ≡ No
+  pub over : length s ≤ i → end_of (length s) (read d (drop i s)) ≡ None
   over h = rw (read-with, at-end s i h)
 
   module _ (h : i < length s) where
     by_kind : (k : Kind) → kind_of (get_or s i 0) ≡ k → read d (drop i s) ≡ read_kind (array_at d) (object_at d) k (get_or s i 0) (drop (i + 1) s)
     by_kind k e = rw (read-with, at-cons s i h, e)
 
-    pub other : kind_of (get_or s i 0) ≡ Other → end_of (length s) (read d (drop i s)) ≡ No
+    pub other : kind_of (get_or s i 0) ≡ Other → end_of (length s) (read d (drop i s)) ≡ None
     other e = rw (by_kind Other e)
 
     pub text : kind_of (get_or s i 0) ≡ Text → end_of (length s) (read d (drop i s)) ≡ end_of (length s) (read_str (drop (i + 1) s))
@@ -56,10 +56,10 @@ module _ (s : Bytes) (i d : ℕ) where
     pub is_null : kind_of (get_or s i 0) ≡ Null → end_of (length s) (read d (drop i s)) ≡ end_of (length s) (word (bytes "ull") (drop (i + 1) s))
     is_null e = rw (by_kind Null e) (ends-also (length s) (λ (x : Unit {0}). jnull) (word (bytes "ull") (drop (i + 1) s)))
 
-    pub deep_array : kind_of (get_or s i 0) ≡ Array → d ≡ 0 → end_of (length s) (read d (drop i s)) ≡ No
+    pub deep_array : kind_of (get_or s i 0) ≡ Array → d ≡ 0 → end_of (length s) (read d (drop i s)) ≡ None
     deep_array e z = rw (by_kind Array e, z)
 
-    pub deep_object : kind_of (get_or s i 0) ≡ Object → d ≡ 0 → end_of (length s) (read d (drop i s)) ≡ No
+    pub deep_object : kind_of (get_or s i 0) ≡ Object → d ≡ 0 → end_of (length s) (read d (drop i s)) ≡ None
     deep_object e z = rw (by_kind Object e, z)
 
 -- the depth left falls

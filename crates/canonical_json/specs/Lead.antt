@@ -2,47 +2,52 @@
 -- The meaning is specs/Rfc3629; proofs/Rfc shows that `wf` accepts the strings of its grammar (of-rfc) and no others (to-rfc).
 use Rattle.std.specs.Prelude.{List, [], ◌∷◌, Bool, true, false, cond, ◌&&◌, ℕ, zero, suc, leb}
 use Rattle.base.specs.Bytes.{Bytes}
-use Rattle.canonical_json.specs.declared.LeadByte.{LeadByte}
-use Rattle.canonical_json.specs.declared.LeadByte.TheVariants.{Bad, Seq}
+use Rattle.std.specs.declared.option.Option.{Option}
+use Rattle.canonical_json.specs.declared.Sequence.{Sequence}
+use Rattle.std.specs.declared.option.Option.TheVariants.{None, Some}
+
+-- a lead byte that `more` bytes follow, the first of them from lo to hi
+abbrev pub seq : ℕ → ℕ → ℕ → Option Sequence
+seq more lo hi = Some (record { more = more; lo = lo; hi = hi })
 
 -- lead bytes up to `upto` (and above the row before) begin a character as `start` says
 pub record Row : Type 0 where
   pub upto : ℕ
-  pub start : LeadByte
+  pub start : Option Sequence
 
-abbrev pub look : List Row → ℕ → LeadByte
-look [] b = Bad
+abbrev pub look : List Row → ℕ → Option Sequence
+look [] b = None
 look (r ∷ rs) b = cond (leb b r.upto) r.start (look rs b)
 
-abbrev pub row : ℕ → LeadByte → Row
+abbrev pub row : ℕ → Option Sequence → Row
 row k x = record { upto = k; start = x }
 
 -- RFC 3629, section 4; no byte below 32
 abbrev pub table : List Row
 table =
-    row 31 Bad
-    ∷ row 127 (Seq 0 0 0)
-    ∷ row 193 Bad
-    ∷ row 223 (Seq 1 128 191)
-    ∷ row 224 (Seq 2 160 191)
-    ∷ row 236 (Seq 2 128 191)
-    ∷ row 237 (Seq 2 128 159)
-    ∷ row 239 (Seq 2 128 191)
-    ∷ row 240 (Seq 3 144 191)
-    ∷ row 243 (Seq 3 128 191)
-    ∷ row 244 (Seq 3 128 143)
+    row 31 None
+    ∷ row 127 (seq 0 0 0)
+    ∷ row 193 None
+    ∷ row 223 (seq 1 128 191)
+    ∷ row 224 (seq 2 160 191)
+    ∷ row 236 (seq 2 128 191)
+    ∷ row 237 (seq 2 128 159)
+    ∷ row 239 (seq 2 128 191)
+    ∷ row 240 (seq 3 144 191)
+    ∷ row 243 (seq 3 128 191)
+    ∷ row 244 (seq 3 128 143)
     ∷ []
 
 -- how many bytes follow a lead byte, and the range of the first of them
-unfoldable pub lead_of : ℕ → LeadByte
+unfoldable pub lead_of : ℕ → Option Sequence
 lead_of b = look table b
 
 abbrev pub within : ℕ → ℕ → ℕ → Bool
 within lo hi b = leb lo b && leb b hi
 
-abbrev pub well_led : LeadByte → (ℕ → ℕ → ℕ → Bool) → Bool
-well_led Bad k = false
-well_led (Seq m l h) k = k m l h
+abbrev pub well_led : Option Sequence → (ℕ → ℕ → ℕ → Bool) → Bool
+well_led None k = false
+well_led (Some l) k = k l.more l.lo l.hi
 
 -- the bytes are well formed, where `more` bytes of a character are still to come, the first of them from lo to hi
 unfoldable pub wf : Bytes → ℕ → ℕ → ℕ → Bool

@@ -1,3 +1,4 @@
+pub mod Options
 pub mod Json
 pub mod Read
 pub mod Strings

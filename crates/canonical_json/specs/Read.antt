@@ -1,13 +1,11 @@
 -- A reader of canonical text: what stands at the front of a list of bytes, and what follows it.
 use Rattle.std.specs.Prelude.{[], ◌∷◌, Bool, true, false, cond, ◌||◌, ◌≡◌, ℕ, zero, suc, ◌-◌, eqb, length}
-use Rattle.std.proofs.Math.Option.{Option, none, some}
+use Rattle.std.specs.declared.option.Option.{Option}
+use Rattle.std.specs.declared.option.Option.TheVariants.{None, Some}
 use Rattle.base.specs.Bytes.{Bytes, bytes, less, is_digit}
 use Rattle.canonical_json.specs.Lead.{lead_of, within}
 use Rattle.canonical_json.specs.Json.{Json, jnull, jtrue, jfalse, num, str, arr, obj, Items, inil, icons, Members, mnil, mcons}
-use Rattle.canonical_json.specs.declared.LeadByte.{LeadByte}
-use Rattle.canonical_json.specs.declared.LeadByte.TheVariants.{Bad, Seq}
-use Rattle.canonical_json.specs.declared.Skip.{Skip}
-use Rattle.canonical_json.specs.declared.Skip.TheVariants.{No, End}
+use Rattle.canonical_json.specs.declared.Sequence.{Sequence}
 use Rattle.canonical_json.specs.declared.Kind.{Kind}
 use Rattle.canonical_json.specs.declared.Kind.TheVariants.{Text, Minus, Digit, Array, Object, True, False, Null, Other}
 
@@ -16,9 +14,9 @@ pub data Got (A : Type 0) : Type 0 where
   got : A → Bytes → Got A
 
 -- where the rest begins, in a text of n bytes
-abbrev pub end_of : {A : Type 0} → ℕ → Got A → Skip
-end_of n bad = No
-end_of n (got a r) = End (n - length r)
+abbrev pub end_of : {A : Type 0} → ℕ → Got A → Option ℕ
+end_of n bad = None
+end_of n (got a r) = Some (n - length r)
 
 -- ## Combinators. What may not be needed is a function of `Unit`, which waits
 
@@ -41,9 +39,9 @@ front (c ∷ r) k = k c r
 abbrev pub expect : {B : Type 0} → ℕ → Bytes → (Bytes → Got B) → Got B
 expect c t k = front t (λ b r. choose (eqb b c) (λ _. k r) (λ _. bad))
 
-abbrev pub led : {B : Type 0} → LeadByte → (ℕ → ℕ → ℕ → Got B) → Got B
-led Bad k = bad
-led (Seq m l h) k = k m l h
+abbrev pub led : {B : Type 0} → Option Sequence → (ℕ → ℕ → ℕ → Got B) → Got B
+led None k = bad
+led (Some l) k = k l.more l.lo l.hi
 
 -- ## Strings
 
@@ -119,8 +117,8 @@ Member = Bytes × Json
 
 -- the name before, if there is one, is less
 abbrev pub rises : Option (Bytes) → Bytes → Bool
-rises none n = true
-rises (some p) n = less p n
+rises None n = true
+rises (Some p) n = less p n
 
 unfoldable pub member : (Bytes → Got Json) → Option (Bytes) → Bytes → Got Member
 member rd p t =
@@ -128,13 +126,13 @@ member rd p t =
     choose (rises p n) (λ _. expect 58 v (λ w. also (λ x. (n, x)) (rd w))) (λ _. bad)))
 
 abbrev pub named : Option (Bytes) → Member → Option (Bytes)
-named p m = some m.0
+named p m = Some m.0
 
 abbrev pub mcons' : Member → Members → Members
 mcons' m ms = mcons m.0 m.1 ms
 
 abbrev pub object : (Bytes → Got Json) → Bytes → Got Members
-object rd t = body (member rd) named mnil mcons' 125 none t
+object rd t = body (member rd) named mnil mcons' 125 None t
 
 -- ## A value, by its first byte
 

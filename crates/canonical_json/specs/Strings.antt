@@ -2,13 +2,13 @@
 use Rattle.std.specs.Prelude.{◌≡◌, Bool, true, not, ◌&&◌, ℕ, ◌≤◌, ◌<◌, ◌+◌, length, drop, get_or, ltb, eqb}
 use Rattle.base.specs.Bytes.{Bytes}
 use Rattle.canonical_json.specs.Read.{Got, end_of, read_str}
-use Rattle.canonical_json.specs.declared.Skip.{Skip}
-use Rattle.canonical_json.specs.declared.Skip.TheVariants.{No, End}
+use Rattle.std.specs.declared.option.Option.{Option}
+use Rattle.std.specs.declared.option.Option.TheVariants.{None, Some}
 
 -- the reading g of the rest of a string in s is refused, or ends where the string ends when it is read from j on, j at least k
-abbrev pub Skips : Bytes → Got (Bytes) → ℕ → Skip → Type 0
-Skips s g k No = end_of (length s) g ≡ No
-Skips s g k (End j) = (end_of (length s) g ≡ end_of (length s) (read_str (drop j s))) × (k ≤ j)
+abbrev pub Skips : Bytes → Got (Bytes) → ℕ → Option ℕ → Type 0
+Skips s g k None = end_of (length s) g ≡ None
+Skips s g k (Some j) = (end_of (length s) g ≡ end_of (length s) (read_str (drop j s))) × (k ≤ j)
 
 -- a byte that stands for itself in a string, and takes no other with it: ASCII from 32 on, neither quote nor backslash
 unfoldable pub plain : ℕ → Bool

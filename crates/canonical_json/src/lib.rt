@@ -15,95 +15,89 @@ pub const MAX_DEPTH: u8 = 8;
 // How many bytes of a string are tested together.
 const BLOCK: usize = 16;
 
-// What a lead byte begins.
+// What a lead byte begins: how many bytes follow it, and the range of the first of them.
 #[derive(Clone, Copy)]
-pub enum LeadByte {
-    Bad,
-    Seq { more: u8, lo: u8, hi: u8 },
+pub struct Sequence {
+    pub more: u8,
+    pub lo: u8,
+    pub hi: u8,
 }
 
 // RFC 3629, section 4: how many bytes follow the lead byte, and the range of the second.
-pub fn lead(b: u8) -> LeadByte
+pub fn lead(b: u8) -> Option<Sequence>
     ensures { result ≡ lead_of b }
 {
     match b {
-        0..=31 => LeadByte::Bad,
-        32..=127 => LeadByte::Seq {
+        0..=31 => None,
+        32..=127 => Some(Sequence {
             more: 0,
             lo: 0,
             hi: 0,
-        },
-        128..=193 => LeadByte::Bad,
-        194..=223 => LeadByte::Seq {
+        }),
+        128..=193 => None,
+        194..=223 => Some(Sequence {
             more: 1,
             lo: 128,
             hi: 191,
-        },
-        224 => LeadByte::Seq {
+        }),
+        224 => Some(Sequence {
             more: 2,
             lo: 160,
             hi: 191,
-        },
-        225..=236 => LeadByte::Seq {
+        }),
+        225..=236 => Some(Sequence {
             more: 2,
             lo: 128,
             hi: 191,
-        },
-        237 => LeadByte::Seq {
+        }),
+        237 => Some(Sequence {
             more: 2,
             lo: 128,
             hi: 159,
-        },
-        238..=239 => LeadByte::Seq {
+        }),
+        238..=239 => Some(Sequence {
             more: 2,
             lo: 128,
             hi: 191,
-        },
-        240 => LeadByte::Seq {
+        }),
+        240 => Some(Sequence {
             more: 3,
             lo: 144,
             hi: 191,
-        },
-        241..=243 => LeadByte::Seq {
+        }),
+        241..=243 => Some(Sequence {
             more: 3,
             lo: 128,
             hi: 191,
-        },
-        244 => LeadByte::Seq {
+        }),
+        244 => Some(Sequence {
             more: 3,
             lo: 128,
             hi: 143,
-        },
-        _ => LeadByte::Bad,
+        }),
+        _ => None,
     }
-}
-
-// Where what was read ends, or that it is refused.
-#[derive(Clone, Copy)]
-pub enum Skip {
-    No,
-    End(usize),
 }
 
 // The escape whose backslash stands just before `at`.
-fn escape_end(s: &[u8], at: usize) -> Skip
+fn escape_end(s: &[u8], at: usize) -> Option<usize>
     ensures { Skips s.now (esc (drop at s.now)) at result }
 {
     if s.len() <= at {
-        return Skip::No;
+        return None;
     }
     let c = s[at];
     if c == b'"' {
-        return Skip::End(at + 1);
+        return Some(at + 1);
     }
     if c == b'\\' {
-        return Skip::End(at + 1);
+        return Some(at + 1);
     }
-    Skip::No
+    None
 }
 
 // The `more` bytes of a character from `at` on, the first of them from `lo` to `hi`.
-fn tail_end(s: &[u8], at: usize, more: u8, lo: u8, hi: u8) -> Skip
+fn tail_end(s: &[u8], at: usize, more: u8, lo: u8, hi: u8) -> Option<usize>
     ensures { Skips s.now (chars (drop at s.now) more lo hi) at result }
 {
     let mut i = at;
@@ -112,25 +106,25 @@ fn tail_end(s: &[u8], at: usize, more: u8, lo: u8, hi: u8) -> Skip
     let mut high = hi;
     while 0 < left {
         if s.len() <= i {
-            return Skip::No;
+            return None;
         }
         let b = s[i];
         if b < low {
-            return Skip::No;
+            return None;
         }
         if high < b {
-            return Skip::No;
+            return None;
         }
         left -= 1;
         low = 128;
         high = 191;
         i += 1;
     }
-    Skip::End(i)
+    Some(i)
 }
 
 // The escape or the character at i, where no quote stands. ASCII comes first: it is most of what is read.
-fn char_end(s: &[u8], i: usize) -> Skip
+fn char_end(s: &[u8], i: usize) -> Option<usize>
     requires { (i < length s.now) × (get_or s.now i 0 ≡ 34 → ⊥) }
     ensures { Skips s.now (read_str (drop i s.now)) (i + 1) result }
 {
@@ -140,16 +134,16 @@ fn char_end(s: &[u8], i: usize) -> Skip
         return escape_end(s, j);
     }
     if b < 32 {
-        return Skip::No;
+        return None;
     }
     if b < 128 {
-        return Skip::End(j);
+        return Some(j);
     }
     match lead(b) {
-        LeadByte::Bad => {
-            return Skip::No;
+        None => {
+            return None;
         }
-        LeadByte::Seq { more, lo, hi } => {
+        Some(Sequence { more, lo, hi }) => {
             return tail_end(s, j, more, lo, hi);
         }
     }
@@ -195,24 +189,24 @@ fn plain_end(s: &[u8], at: usize) -> usize
 }
 
 // The string whose opening quote stands just before `at`. Long runs of plain bytes come first: they are most of what is read.
-pub fn string(s: &[u8], at: usize) -> Skip
+pub fn string(s: &[u8], at: usize) -> Option<usize>
     ensures { result ≡ end_of (length s.now) (read_str (drop at s.now)) }
 {
     let mut i = plain_end(s, at);
     while i < s.len() {
         if s[i] == b'"' {
-            return Skip::End(i + 1);
+            return Some(i + 1);
         }
         match char_end(s, i) {
-            Skip::No => {
-                return Skip::No;
+            None => {
+                return None;
             }
-            Skip::End(e) => {
+            Some(e) => {
                 i = e;
             }
         }
     }
-    Skip::No
+    None
 }
 
 // The kinds of value, as the first byte tells them.
@@ -247,41 +241,41 @@ fn kind_of(b: u8) -> Kind
 }
 
 // The digits of a number, after its minus where there is one.
-pub fn number(s: &[u8], at: usize, neg: bool) -> Skip
+pub fn number(s: &[u8], at: usize, neg: bool) -> Option<usize>
     ensures { result ≡ end_of (length s.now) (number_of neg (drop at s.now)) }
 {
     if s.len() <= at {
-        return Skip::No;
+        return None;
     }
     let b = s[at];
     if b == b'0' {
         if neg {
-            return Skip::No;
+            return None;
         }
-        return Skip::End(at + 1);
+        return Some(at + 1);
     }
     if b < b'0' {
-        return Skip::No;
+        return None;
     }
     if b'9' < b {
-        return Skip::No;
+        return None;
     }
     let mut i = at + 1;
     while i < s.len() {
         let c = s[i];
         if c < b'0' {
-            return Skip::End(i);
+            return Some(i);
         }
         if b'9' < c {
-            return Skip::End(i);
+            return Some(i);
         }
         i += 1;
     }
-    Skip::End(i)
+    Some(i)
 }
 
 // The bytes w stand at `at`.
-fn word(s: &[u8], at: usize, w: &[u8]) -> Skip
+fn word(s: &[u8], at: usize, w: &[u8]) -> Option<usize>
     requires { at ≤ length s.now }
     ensures { result ≡ end_of (length s.now) (word_of w.now (drop at s.now)) }
 {
@@ -289,43 +283,36 @@ fn word(s: &[u8], at: usize, w: &[u8]) -> Skip
     let mut k = 0;
     while k < w.len() {
         if s.len() <= i {
-            return Skip::No;
+            return None;
         }
         if s[i] != w[k] {
-            return Skip::No;
+            return None;
         }
         i += 1;
         k += 1;
     }
-    Skip::End(i)
-}
-
-// One byte of a name in the text, escapes undone, and where the next stands.
-#[derive(Clone, Copy)]
-pub enum Char {
-    Close,
-    Byte(u8, usize),
+    Some(i)
 }
 
 // The byte of a name at i, or that the name ends there.
-pub fn char_at(s: &[u8], i: usize) -> Char
+pub fn char_at(s: &[u8], i: usize) -> Option<(u8, usize)>
     ensures { CharRead s.now i result }
 {
     if s.len() <= i {
-        return Char::Close;
+        return None;
     }
     let first = s[i];
     if first == b'"' {
-        return Char::Close;
+        return None;
     }
     let j = i + 1;
     if first == b'\\' {
         if s.len() <= j {
-            return Char::Close;
+            return None;
         }
-        return Char::Byte(s[j], j + 1);
+        return Some((s[j], j + 1));
     }
-    Char::Byte(first, j)
+    Some((first, j))
 }
 
 // Whether the bytes are one plain byte.
@@ -392,14 +379,14 @@ fn name_less(s: &[u8], a: usize, b: usize) -> bool
     let mut j = from.b;
     loop {
         match char_at(s, j) {
-            Char::Close => {
+            None => {
                 return false;
             }
-            Char::Byte(y, jj) => match char_at(s, i) {
-                Char::Close => {
+            Some((y, jj)) => match char_at(s, i) {
+                None => {
                     return true;
                 }
-                Char::Byte(x, ii) => {
+                Some((x, ii)) => {
                     if x != y {
                         return x < y;
                     }
@@ -411,22 +398,15 @@ fn name_less(s: &[u8], a: usize, b: usize) -> bool
     }
 }
 
-// Where the name before a member stands, just past its opening quote.
-#[derive(Clone, Copy)]
-pub enum Last {
-    Nothing,
-    Name(usize),
-}
-
 // The name at k follows the one before.
-fn in_order(s: &[u8], last: Last, k: usize) -> bool
+fn in_order(s: &[u8], last: Option<usize>, k: usize) -> bool
     ensures { result ≡ rises (last_of s.now last) (raw (drop k s.now)) }
 {
     match last {
-        Last::Nothing => {
+        None => {
             return true;
         }
-        Last::Name(p) => {
+        Some(p) => {
             return name_less(s, p, k);
         }
     }
@@ -434,11 +414,11 @@ fn in_order(s: &[u8], last: Last, k: usize) -> bool
 
 // The value at `at`; objects and arrays may hold one another `depth` deep.
 #[cycle(array_object_pair_value)]
-pub fn value(s: &[u8], at: usize, depth: u8) -> Skip
+pub fn value(s: &[u8], at: usize, depth: u8) -> Option<usize>
     ensures { result ≡ end_of (length s.now) (read depth (drop at s.now)) }
 {
     if s.len() <= at {
-        return Skip::No;
+        return None;
     }
     let b = s[at];
     let next = at + 1;
@@ -454,13 +434,13 @@ pub fn value(s: &[u8], at: usize, depth: u8) -> Skip
         }
         Kind::Array => {
             if depth == 0 {
-                return Skip::No;
+                return None;
             }
             return array(s, next, depth - 1);
         }
         Kind::Object => {
             if depth == 0 {
-                return Skip::No;
+                return None;
             }
             return object(s, next, depth - 1);
         }
@@ -474,71 +454,71 @@ pub fn value(s: &[u8], at: usize, depth: u8) -> Skip
             return word(s, next, b"ull");
         }
         Kind::Other => {
-            return Skip::No;
+            return None;
         }
     }
 }
 
 // The array whose opening bracket stands just before `at`; its elements may go `depth` deep.
 #[cycle(array_object_pair_value)]
-pub fn array(s: &[u8], at: usize, depth: u8) -> Skip
+pub fn array(s: &[u8], at: usize, depth: u8) -> Option<usize>
     ensures { result ≡ end_of (length s.now) (array_of (read depth) (drop at s.now)) }
 {
     if s.len() <= at {
-        return Skip::No;
+        return None;
     }
     if s[at] == b']' {
-        return Skip::End(at + 1);
+        return Some(at + 1);
     }
     let mut i = at;
     while i < s.len() {
         match value(s, i, depth) {
-            Skip::No => {
-                return Skip::No;
+            None => {
+                return None;
             }
-            Skip::End(e) => {
+            Some(e) => {
                 if s.len() <= e {
-                    return Skip::No;
+                    return None;
                 }
                 let c = s[e];
                 if c == b']' {
-                    return Skip::End(e + 1);
+                    return Some(e + 1);
                 }
                 if c != b',' {
-                    return Skip::No;
+                    return None;
                 }
                 i = e + 1;
             }
         }
     }
-    Skip::No
+    None
 }
 
 // The member at i, whose name must follow the one before.
 #[cycle(array_object_pair_value)]
-fn pair(s: &[u8], i: usize, last: Last, depth: u8) -> Skip
+fn pair(s: &[u8], i: usize, last: Option<usize>, depth: u8) -> Option<usize>
     ensures { result ≡ end_of (length s.now) (member_of (read depth) (last_of s.now last) (drop i s.now)) }
 {
     if s.len() <= i {
-        return Skip::No;
+        return None;
     }
     if s[i] != b'"' {
-        return Skip::No;
+        return None;
     }
     let k = i + 1;
     match string(s, k) {
-        Skip::No => {
-            return Skip::No;
+        None => {
+            return None;
         }
-        Skip::End(e) => {
+        Some(e) => {
             if !in_order(s, last, k) {
-                return Skip::No;
+                return None;
             }
             if s.len() <= e {
-                return Skip::No;
+                return None;
             }
             if s[e] != b':' {
-                return Skip::No;
+                return None;
             }
             return value(s, e + 1, depth);
         }
@@ -547,39 +527,39 @@ fn pair(s: &[u8], i: usize, last: Last, depth: u8) -> Skip
 
 // The object whose opening brace stands just before `at`; its values may go `depth` deep.
 #[cycle(array_object_pair_value)]
-pub fn object(s: &[u8], at: usize, depth: u8) -> Skip
+pub fn object(s: &[u8], at: usize, depth: u8) -> Option<usize>
     ensures { result ≡ end_of (length s.now) (object_of (read depth) (drop at s.now)) }
 {
     if s.len() <= at {
-        return Skip::No;
+        return None;
     }
     if s[at] == b'}' {
-        return Skip::End(at + 1);
+        return Some(at + 1);
     }
     let mut i = at;
-    let mut last = Last::Nothing;
+    let mut last = None;
     while i < s.len() {
         match pair(s, i, last, depth) {
-            Skip::No => {
-                return Skip::No;
+            None => {
+                return None;
             }
-            Skip::End(e) => {
+            Some(e) => {
                 if s.len() <= e {
-                    return Skip::No;
+                    return None;
                 }
                 let c = s[e];
                 if c == b'}' {
-                    return Skip::End(e + 1);
+                    return Some(e + 1);
                 }
                 if c != b',' {
-                    return Skip::No;
+                    return None;
                 }
-                last = Last::Name(i + 1);
+                last = Some(i + 1);
                 i = e + 1;
             }
         }
     }
-    Skip::No
+    None
 }
 
 // Whether the text is canonical.
@@ -587,10 +567,10 @@ pub fn is_canonical(s: &[u8]) -> bool
     ensures { (result ≡ true) ↔ Canonical max_depth s.now }
 {
     match value(s, 0, MAX_DEPTH) {
-        Skip::No => {
+        None => {
             return false;
         }
-        Skip::End(e) => {
+        Some(e) => {
             return e == s.len();
         }
     }

@@ -1,6 +1,6 @@
 -- The flat battery (A8), played: everything has expired, an earlier start time is refused, and what was found expired is not found fresh.
 use mathlib.Core.Path.{◌≡◌, refl, sym, ap, ◌∙◌, subst}
-use mathlib.Core.Option.{none, some}
+use Rattle.std.specs.declared.option.Option.TheVariants.{None, Some}
 use mathlib.Core.List.{List, [], ◌∷◌, ◌++◌}
 use native.Mathlib.Omega.{arith}
 use lib.IntN.{ℤ, pos}
@@ -41,9 +41,9 @@ the_history = record { install = the_install; accepted = install-answers; calls 
 
 -- everything is held, at this start time
 abbrev up : ℤ → State
-up = at (root_at 1 1 a) (some (timestamp_at 5 (version_only 7))) (some plain) (some (kept (targets_text "3" image_text) 3))
+up = at (root_at 1 1 a) (Some (timestamp_at 5 (version_only 7))) (Some plain) (Some (kept (targets_text "3" image_text) 3))
 
-until_goes : Chain (at (root_at 1 1 a) none none none (pos 1000)) until (0 ∷ 0 ∷ 0 ∷ 0 ∷ 0 ∷ []) (up (pos 1893456000))
+until_goes : Chain (at (root_at 1 1 a) None None None (pos 1000)) until (0 ∷ 0 ∷ 0 ∷ 0 ∷ 0 ∷ []) (up (pos 1893456000))
 unfolding tables with_start with_timestamp with_snapshot with_targets keep_targets
 until_goes =
     step (timestamp_goes _ readings.timestamp5 refl)

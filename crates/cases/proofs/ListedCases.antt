@@ -2,7 +2,7 @@
 -- the digest of 30 bytes 5, and the targets that are held have that of 30 bytes 7.
 use mathlib.Core.Path.{refl}
 use mathlib.Core.List.{List, [], ◌∷◌}
-use mathlib.Core.Option.{some}
+use Rattle.std.specs.declared.option.Option.TheVariants.{Some}
 use Prim.Native.Nat.{ℕ}
 use lib.IntN.{pos}
 use lib.ListN.{replicate}
@@ -19,7 +19,7 @@ use Rattle.rules.proofs.Computing.{tables}
 
 abbrev pub listed : ℕ → Listed
 listed version =
-    record { version = version; length = some 30; digest = some (undo (bytes "f7d4a24b8cc8378489ef431152b9858f686bb00c354620d911d7dcd319e95d1f")) }
+    record { version = version; length = Some 30; digest = Some (undo (bytes "f7d4a24b8cc8378489ef431152b9858f686bb00c354620d911d7dcd319e95d1f")) }
 
 abbrev pub names7 : Snapshot
 names7 = record { version = 3; expires = pos 1000; names = record { name = bytes "targets.json"; listed = listed 7 } ∷ [] }
@@ -27,11 +27,11 @@ names7 = record { version = 3; expires = pos 1000; names = record { name = bytes
 abbrev pub full : State
 full =
     record {
-      root = some root4;
-      timestamp = some (record { version = 2; expires = pos 1000; snapshot = listed 3 });
-      snapshot = some names7;
+      root = Some root4;
+      timestamp = Some (record { version = 2; expires = pos 1000; snapshot = listed 3 });
+      snapshot = Some names7;
       targets =
-          some
+          Some
           (record {
             version = 7;
             expires = pos 1000;

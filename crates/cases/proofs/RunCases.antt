@@ -2,7 +2,7 @@
 -- to find, and a publisher after it, are in Witness.antt.
 use mathlib.Core.Path.{refl}
 use mathlib.Core.List.{List, [], ◌∷◌, ◌++◌}
-use mathlib.Core.Option.{none, some}
+use Rattle.std.specs.declared.option.Option.TheVariants.{None, Some}
 use Prim.Native.Nat.{ℕ}
 use Prim.Native.String.{String}
 use lib.IntN.{ℤ, pos}
@@ -67,10 +67,10 @@ abbrev pub root1 : Root
 root1 = held_root (key_k ∷ []) (only k) 1
 
 abbrev pub held_timestamp : Timestamp
-held_timestamp = record { version = 1; expires = end; snapshot = record { version = 1; length = none; digest = none } }
+held_timestamp = record { version = 1; expires = end; snapshot = record { version = 1; length = None; digest = None } }
 
 abbrev pub version1 : String → Named
-version1 name = record { name = bytes name; listed = record { version = 1; length = none; digest = none } }
+version1 name = record { name = bytes name; listed = record { version = 1; length = None; digest = None } }
 
 abbrev pub held_snapshot : Snapshot
 held_snapshot =
@@ -83,21 +83,21 @@ held_snapshot =
 -- the states after install, timestamp, snapshot and targets, with whatever root and start time; the targets of that digest
 module _ (held : Root) (start : ℤ) where
   abbrev pub root_only : State
-  root_only = record { root = some held; timestamp = none; snapshot = none; targets = none; start = start }
+  root_only = record { root = Some held; timestamp = None; snapshot = None; targets = None; start = start }
 
   abbrev pub stamped : State
-  stamped = record { root = some held; timestamp = some held_timestamp; snapshot = none; targets = none; start = start }
+  stamped = record { root = Some held; timestamp = Some held_timestamp; snapshot = None; targets = None; start = start }
 
   abbrev pub shown : State
-  shown = record { root = some held; timestamp = some held_timestamp; snapshot = some held_snapshot; targets = none; start = start }
+  shown = record { root = Some held; timestamp = Some held_timestamp; snapshot = Some held_snapshot; targets = None; start = start }
 
   abbrev pub full : Bytes → State
   full digest =
       record {
-        root = some held;
-        timestamp = some held_timestamp;
-        snapshot = some held_snapshot;
-        targets = some (record { version = 1; expires = end; digest = digest });
+        root = Some held;
+        timestamp = Some held_timestamp;
+        snapshot = Some held_snapshot;
+        targets = Some (record { version = 1; expires = end; digest = digest });
         start = start;
       }
 

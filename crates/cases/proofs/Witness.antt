@@ -2,7 +2,8 @@
 -- is not empty. Files of one role are accepted again with equal versions and other contents; a root changes the targets keys alone; a
 -- root changes nothing but the threshold of the timestamp role (A5), and after it the versions do fall.
 use mathlib.Core.Path.{◌≡◌, refl, sym, ap, ◌∙◌, subst}
-use mathlib.Core.Option.{Option, none, some}
+use Rattle.std.specs.declared.option.Option.{Option}
+use Rattle.std.specs.declared.option.Option.TheVariants.{None, Some}
 use mathlib.Core.Bool.{false}
 use mathlib.Core.List.{List, [], ◌∷◌, ◌++◌}
 use Prim.Native.Nat.{ℕ, suc, ◌≤◌, ◌<◌}
@@ -84,7 +85,7 @@ the_calls =
 -- ## The history
 
 abbrev pub at : Root → Option Timestamp → Option Snapshot → Option Targets → ℤ → State
-at r t n g start = record { root = some r; timestamp = t; snapshot = n; targets = g; start = start }
+at r t n g start = record { root = Some r; timestamp = t; snapshot = n; targets = g; start = start }
 
 abbrev pub kept : Bytes → ℕ → Targets
 kept file version = record { version = version; expires = pos 1893456000; digest = digest_of file }
@@ -95,11 +96,11 @@ held1 = kept (targets_text "1" image_text) 1
 
 -- the state in which the find is made
 abbrev found_in : State
-found_in = at (root_at 1 1 a) (some (timestamp_at 5 (version_only 7))) (some plain) (some (kept (targets_text "3" image_text) 3)) (pos 1000)
+found_in = at (root_at 1 1 a) (Some (timestamp_at 5 (version_only 7))) (Some plain) (Some (kept (targets_text "3" image_text) 3)) (pos 1000)
 
-chain : Chain (at (root_at 1 1 a) none none none (pos 1000)) the_calls
+chain : Chain (at (root_at 1 1 a) None None None (pos 1000)) the_calls
     (0 ∷ 0 ∷ 0 ∷ 0 ∷ 0 ∷ 0 ∷ 0 ∷ 0 ∷ 9 ∷ 0 ∷ 0 ∷ 9 ∷ 0 ∷ 0 ∷ 0 ∷ 0 ∷ [])
-    (at (root_at 3 2 b) (some (timestamp_at 1 (version_only 2))) (some low) (some held1) (pos 1000))
+    (at (root_at 3 2 b) (Some (timestamp_at 1 (version_only 2))) (Some low) (Some held1) (pos 1000))
 unfolding tables digit_of all_hex is_hex undo with_root with_timestamp with_snapshot with_targets keep_targets
 chain =
     step (timestamp_goes _ readings.timestamp5 refl)
@@ -127,7 +128,7 @@ install-answers = judged-is (install_table the_install) readings.root1
 abbrev pub the_history : History
 the_history = record { install = the_install; accepted = install-answers; calls = the_calls }
 
-pub installed-is : installed the_install ≡ at (root_at 1 1 a) none none none (pos 1000)
+pub installed-is : installed the_install ≡ at (root_at 1 1 a) None None None (pos 1000)
 unfolding root_alone
 installed-is = install-after the_install (root_at 1 1 a) (a ∷ b ∷ []) readings.root1 install-answers
 
@@ -137,7 +138,7 @@ answered = ap (λ (s : State). answers_of s the_calls) installed-is ∙ chain-an
 
 -- what is held in the end
 abbrev pub the_end : State
-the_end = at (root_at 3 2 b) (some (timestamp_at 1 (version_only 2))) (some low) (some held1) (pos 1000)
+the_end = at (root_at 3 2 b) (Some (timestamp_at 1 (version_only 2))) (Some low) (Some held1) (pos 1000)
 
 pub ends : end the_history ≡ the_end
 unfolding end
@@ -151,7 +152,7 @@ timestamp6 = a_new_timestamp (timestamp_text "6" (version_text "7")) by_a
 abbrev timestamp1 : Call
 timestamp1 = a_new_timestamp (timestamp_text "1" (version_text "2")) by_both
 
-accepted-at : (before : List Call) (c : Call) → answer (run (at (root_at 1 1 a) none none none (pos 1000)) before) c ≡ 0
+accepted-at : (before : List Call) (c : Call) → answer (run (at (root_at 1 1 a) None None None (pos 1000)) before) c ≡ 0
     → answer (run (installed the_install) before) c ≡ 0
 accepted-at before c e = ap (λ (s : State). answer (run s before) c) installed-is ∙ e
 
@@ -239,13 +240,13 @@ plan =
 
 -- the states that its calls are given
 abbrev pub before₁ : State
-before₁ = at (root_at 4 2 b) (some (timestamp_at 1 (version_only 2))) (some low) (some held1) (pos 2000)
+before₁ = at (root_at 4 2 b) (Some (timestamp_at 1 (version_only 2))) (Some low) (Some held1) (pos 2000)
 
 abbrev pub before₂ : State
-before₂ = at (root_at 4 2 b) (some (timestamp_at 2 (full snapshot_digest 699 3))) (some low) (some held1) (pos 2000)
+before₂ = at (root_at 4 2 b) (Some (timestamp_at 2 (full snapshot_digest 699 3))) (Some low) (Some held1) (pos 2000)
 
 abbrev pub before₃ : State
-before₃ = at (root_at 4 2 b) (some (timestamp_at 2 (full snapshot_digest 699 3))) (some complete) (some held1) (pos 3000)
+before₃ = at (root_at 4 2 b) (Some (timestamp_at 2 (full snapshot_digest 699 3))) (Some complete) (Some held1) (pos 3000)
 
 root-again : Goes the_end (a_new_root (root_text "3" "2" l)) 11 the_end
 unfolding tables
@@ -273,11 +274,11 @@ at-targets =
 refused-idle : {s s' : State} {c : Call} {n : ℕ} → Goes s c (suc n) s' → Idle s c
 refused-idle g x (at_call e z) = let r = g.answers in absurd (omega arith)
 
-none-idle : {s : State} {c : Call} → offered c ≡ none → Idle s c
+none-idle : {s : State} {c : Call} → offered c ≡ None → Idle s c
 none-idle o x (at_call e z) = none-not-some (sym o ∙ e)
 
 -- a record that is held in a state, and what is known of it
-held-is : {A : Type 0} {s s' : State} {a b : A} → s ≡ s' → (part : State → Option A) (Q : A → Type 0) → part s ≡ some a → part s' ≡ some b
+held-is : {A : Type 0} {s s' : State} {a b : A} → s ≡ s' → (part : State → Option A) (Q : A → Type 0) → part s ≡ Some a → part s' ≡ Some b
     → Q b → Q a
 held-is e part Q p q k = subst Q (some_is (sym q ∙ ap part (sym e) ∙ p)) k
 

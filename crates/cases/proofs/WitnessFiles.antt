@@ -2,7 +2,7 @@
 use mathlib.Core.Path.{◌≡◌, refl, ap}
 use mathlib.Core.Bool.{Bool, true, false, cond, ◌&&◌}
 use mathlib.Core.List.{List, [], ◌∷◌, ◌++◌}
-use mathlib.Core.Option.{none, some}
+use Rattle.std.specs.declared.option.Option.TheVariants.{None, Some}
 use Prim.Native.Nat.{ℕ}
 use Prim.Native.String.{String}
 use lib.IntN.{pos}
@@ -96,10 +96,10 @@ full_text digest length version =
     ++ bytes "}"
 
 abbrev pub version_only : ℕ → Listed
-version_only version = record { version = version; length = none; digest = none }
+version_only version = record { version = version; length = None; digest = None }
 
 abbrev pub full : Bytes → ℕ → ℕ → Listed
-full digest length version = record { version = version; length = some length; digest = some digest }
+full digest length version = record { version = version; length = Some length; digest = Some digest }
 
 abbrev pub timestamp_text : String → Bytes → Bytes
 timestamp_text version snapshot =

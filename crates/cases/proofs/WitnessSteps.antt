@@ -1,6 +1,6 @@
 -- Calls in their turn: what each answers, and the state after it, by what its file says.
 use mathlib.Core.Path.{◌≡◌, refl, ap, ◌∙◌}
-use mathlib.Core.Option.{some}
+use Rattle.std.specs.declared.option.Option.TheVariants.{Some}
 use mathlib.Core.Bool.{false, not}
 use mathlib.Core.List.{List, [], ◌∷◌, ◌++◌}
 use Prim.Native.Nat.{ℕ, suc}
@@ -58,7 +58,7 @@ chain-answer (x ∷ before) (m ∷ ns) c cs n ms e (step g rest) =
 pub refused_goes : {s : State} {c : Call} {n : ℕ} → answer s c ≡ suc n → Goes s c (suc n) s
 refused_goes {s} {c} e = record { answers = e; becomes = next-refused s c (λ (z : answer s c ≡ 0). absurd (omega arith)) }
 
-pub root_goes : {s : State} (held r : Root) {o : RootOffer} → s.root ≡ some held → Says root_in o.file r
+pub root_goes : {s : State} (held r : Root) {o : RootOffer} → s.root ≡ Some held → Says root_in o.file r
     → first (root_table s o r (a ∷ b ∷ [])) ≡ 0 → Goes s (new_root o) 0 (with_root s held r)
 unfolding answer offered trusting started after_root
 root_goes {s} held r {o} h reads e =

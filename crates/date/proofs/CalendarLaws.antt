@@ -3,7 +3,7 @@ use Prim.Native.Nat.{ℕ, zero, suc, ◌+◌, ◌-◌, ◌*◌, ◌/◌, ◌%◌
 use mathlib.Core.Path.{◌≡◌, refl, ◌∙◌, ap}
 use mathlib.Core.Bool.{Bool, true, false, cond, not, ◌&&◌, ◌||◌, false≢true, and-false}
 use mathlib.Core.Logic.{◌⊎◌, inl, inr}
-use mathlib.Core.Option.{none, some}
+use Rattle.std.specs.declared.option.Option.TheVariants.{None, Some}
 use native.Mathlib.Omega.{arith}
 use borrow.Author.Tests.{eqb-true, lt-leb, le-leb, eq-eqb, ne_eqb}
 use lib.Dec.{eqb}
@@ -93,35 +93,35 @@ epoch-seconds = refl
 -- ## The numbers of a date, by cases
 
 module _ (y m d h mi s : ℕ) where
-  pub no_month : m < 1 → none ≡ civil_time y m d h mi s
+  pub no_month : m < 1 → None ≡ civil_time y m d h mi s
   unfolding civil_time
   no_month p = simp (lt-leb _ _ p)
 
-  pub past-months : 12 < m → none ≡ civil_time y m d h mi s
+  pub past-months : 12 < m → None ≡ civil_time y m d h mi s
   unfolding civil_time
   past-months p = simp (lt-leb _ _ p, and-false)
 
-  pub no_day : d < 1 → none ≡ civil_time y m d h mi s
+  pub no_day : d < 1 → None ≡ civil_time y m d h mi s
   unfolding civil_time
   no_day p = simp (lt-leb _ _ p, and-false)
 
-  pub past-days : month_days y m < d → none ≡ civil_time y m d h mi s
+  pub past-days : month_days y m < d → None ≡ civil_time y m d h mi s
   unfolding civil_time
   past-days p = simp (lt-leb _ _ p, and-false)
 
-  pub past-hours : 23 < h → none ≡ civil_time y m d h mi s
+  pub past-hours : 23 < h → None ≡ civil_time y m d h mi s
   unfolding civil_time
   past-hours p = simp (lt-leb _ _ p, and-false)
 
-  pub past-minutes : 59 < mi → none ≡ civil_time y m d h mi s
+  pub past-minutes : 59 < mi → None ≡ civil_time y m d h mi s
   unfolding civil_time
   past-minutes p = simp (lt-leb _ _ p, and-false)
 
-  pub past-seconds : 59 < s → none ≡ civil_time y m d h mi s
+  pub past-seconds : 59 < s → None ≡ civil_time y m d h mi s
   unfolding civil_time
   past-seconds p = simp (lt-leb _ _ p, and-false)
 
-  pub civil : Civil y m d h mi s → d ≤ month_days y m → some (time_of y m d h mi s) ≡ civil_time y m d h mi s
+  pub civil : Civil y m d h mi s → d ≤ month_days y m → Some (time_of y m d h mi s) ≡ civil_time y m d h mi s
   unfolding civil_time
   civil c p =
       simp (
@@ -137,7 +137,7 @@ module _ (y m d h mi s : ℕ) where
 -- ## A date's text, by cases
 
 module _ (s : Bytes) where
-  pub no-form : has_form form s ≡ false → none ≡ date_of s
+  pub no-form : has_form form s ≡ false → None ≡ date_of s
   unfolding date_of
   no-form h = rw h
 

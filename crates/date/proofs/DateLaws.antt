@@ -2,7 +2,7 @@
 use Prim.Native.Nat.{ℕ, zero, suc, ◌+◌, ◌-◌, ◌*◌, ◌≤◌, ◌<◌}
 use mathlib.Core.Path.{◌≡◌, refl, sym, ◌∙◌}
 use mathlib.Core.Bool.{Bool, true, false, cond}
-use mathlib.Core.Option.{none, some}
+use Rattle.std.specs.declared.option.Option.TheVariants.{None, Some}
 use native.Mathlib.Omega.{arith}
 use borrow.Author.Tests.{leb-true}
 use lib.ListN.{length}
@@ -82,33 +82,33 @@ time-within y m d h mi s k e =
     let n = second_number y m d h mi s in
     rw epoch-seconds (record { from = sub_le_z 0 n 62167219200 (omega arith); to = sub_le_z n 315569519999 62167219200 (last-second y m d h mi s k e) })
 
-civil-within : (y m d h mi s : ℕ) (z : ℤ) → y ≤ 9999 → civil_time y m d h mi s ≡ some z → Within z
+civil-within : (y m d h mi s : ℕ) (z : ℤ) → y ≤ 9999 → civil_time y m d h mi s ≡ Some z → Within z
 unfolding civil_time
 civil-within y m d h mi s z k e = by (is_civil y m d h mi s) refl e
   where
-    by : (b : Bool) → is_civil y m d h mi s ≡ b → cond b (some (time_of y m d h mi s)) none ≡ some z → Within z
+    by : (b : Bool) → is_civil y m d h mi s ≡ b → cond b (Some (time_of y m d h mi s)) None ≡ Some z → Within z
     by true f g = let w : time_of y m d h mi s ≡ z = cc in rw w at (time-within y m d h mi s k f)
     by false f g = let w : ◌≡◌ {A = ℕ} 0 1 = cc in absurd (omega arith)
 
 -- ## A date's text
 
-formed : (s : Bytes) (z : ℤ) → date_of s ≡ some z → has_form form s ≡ true
+formed : (s : Bytes) (z : ℤ) → date_of s ≡ Some z → has_form form s ≡ true
 formed s z e = by (has_form form s) refl
   where
     by : (b : Bool) → has_form form s ≡ b → b ≡ true
     by true f = refl
-    by false f = let w : none ≡ some z = no-form s f ∙ e in let k : ◌≡◌ {A = ℕ} 0 1 = cc in absurd (omega arith)
+    by false f = let w : None ≡ Some z = no-form s f ∙ e in let k : ◌≡◌ {A = ℕ} 0 1 = cc in absurd (omega arith)
 
-pub date-length : (s : Bytes) (z : ℤ) → date_of s ≡ some z → length s ≡ 20
+pub date-length : (s : Bytes) (z : ℤ) → date_of s ≡ Some z → length s ≡ 20
 date-length s z e = sym (form-length form s (formed s z e))
 
-pub date-within : (s : Bytes) (z : ℤ) → date_of s ≡ some z → Within z
+pub date-within : (s : Bytes) (z : ℤ) → date_of s ≡ Some z → Within z
 date-within s z e = let f = formed s z e in civil-within _ _ _ _ _ _ z (year-most s f) (date-form s f ∙ e)
 
-pub first-date : date_of (bytes "0000-01-01T00:00:00Z") ≡ some first
+pub first-date : date_of (bytes "0000-01-01T00:00:00Z") ≡ Some first
 unfolding fits has_form date_of civil_time time_of epoch second_number day_number years_before first_months
 first-date = refl
 
-pub last-date : date_of (bytes "9999-12-31T23:59:59Z") ≡ some last
+pub last-date : date_of (bytes "9999-12-31T23:59:59Z") ≡ Some last
 unfolding fits has_form date_of civil_time time_of epoch second_number day_number years_before first_months
 last-date = refl

@@ -1,7 +1,8 @@
 -- The dates of 01 ("Dates"), in its order: the text's form, the calendar, the count of seconds, expiry; and A8's order of start times.
 -- Days are counted by adding up the lengths of the years and months that have passed.
 use Rattle.std.specs.Prelude.{ℕ, zero, suc, ◌+◌, ◌-◌, ◌*◌, ◌%◌, Bool, true, false, cond, not, ◌&&◌, ◌||◌, [], ◌∷◌, get_or, leb, eqb, ℤ, pos, ◌-ℤ◌}
-use Rattle.std.proofs.Math.Option.{Option, none, some}
+use Rattle.std.specs.declared.option.Option.{Option}
+use Rattle.std.specs.declared.option.Option.TheVariants.{None, Some}
 use Rattle.std.specs.Int.Signed.{lt_z, le_z}
 use Rattle.base.specs.Bytes.{Bytes, bytes, is_digit}
 
@@ -75,7 +76,7 @@ time_of year month day hour minute second =
 -- the count of six numbers that are a date, and nothing of any others
 unfoldable pub civil_time : ℕ → ℕ → ℕ → ℕ → ℕ → ℕ → Option ℤ
 civil_time year month day hour minute second =
-    cond (is_civil year month day hour minute second) (some (time_of year month day hour minute second)) none
+    cond (is_civil year month day hour minute second) (Some (time_of year month day hour minute second)) None
 
 -- what a date's text means
 unfoldable pub date_of : Bytes → Option ℤ
@@ -83,7 +84,7 @@ date_of s =
     cond (has_form form s)
     (civil_time (two_digits s 0 * 100 + two_digits s 2) (two_digits s 5) (two_digits s 8)
     (two_digits s 11) (two_digits s 14) (two_digits s 17))
-    none
+    None
 
 -- "Expired means: expires is at or below the start time in force"
 unfoldable pub expired : ℤ → ℤ → Bool

@@ -17,13 +17,6 @@ pub struct Time {
     pub seconds: i64,
 }
 
-// What a text is: the date it writes, or none.
-#[derive(Clone, Copy)]
-pub enum Date {
-    At(Time),
-    Bad,
-}
-
 impl Time {
     // Whether a file that expires at this time is expired at `start`.
     pub fn expired(self, start: Time) -> bool
@@ -162,42 +155,42 @@ fn civil_seconds(year: u64, month: u64, day: u64, hour: u64, minute: u64, second
 }
 
 // The date of these numbers, if there is one.
-fn civil_date(year: u64, month: u64, day: u64, hour: u64, minute: u64, second: u64) -> Date
+fn civil_date(year: u64, month: u64, day: u64, hour: u64, minute: u64, second: u64) -> Option<Time>
     requires { year ≤ 9999 }
     ensures { view_date result ≡ civil_time year month day hour minute second }
 {
     if month < 1 {
-        return Date::Bad;
+        return None;
     }
     if 12 < month {
-        return Date::Bad;
+        return None;
     }
     if day < 1 {
-        return Date::Bad;
+        return None;
     }
     if month_days(year, month) < day {
-        return Date::Bad;
+        return None;
     }
     if 23 < hour {
-        return Date::Bad;
+        return None;
     }
     if 59 < minute {
-        return Date::Bad;
+        return None;
     }
     if 59 < second {
-        return Date::Bad;
+        return None;
     }
-    Date::At(Time {
+    Some(Time {
         seconds: civil_seconds(year, month, day, hour, minute, second),
     })
 }
 
 // The date that s writes.
-pub fn parse(s: &[u8]) -> Date
+pub fn parse(s: &[u8]) -> Option<Time>
     ensures { view_date result ≡ date_of s.now }
 {
     if !has_form(b"0000-00-00T00:00:00Z", s) {
-        return Date::Bad;
+        return None;
     }
     let year = two_digits(s, 0) * 100 + two_digits(s, 2);
     let month = two_digits(s, 5);

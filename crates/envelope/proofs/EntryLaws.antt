@@ -1,6 +1,8 @@
 -- Signature entries: one entry, and the keyids of all of them.
 use mathlib.Core.Path.{◌≡◌, refl, sym, ap, ◌∙◌}
-use mathlib.Core.Option.{Option, none, some, bind}
+use Rattle.std.specs.declared.option.Option.{Option}
+use Rattle.std.specs.declared.option.Option.TheVariants.{None, Some}
+use Rattle.canonical_json.specs.Options.{bind}
 use mathlib.Core.List.{List, ◌∷◌}
 use mathlib.Core.Bool.{Bool, true, false, ◌&&◌}
 use Prim.Native.Nat.{ℕ}
@@ -15,7 +17,6 @@ use Rattle.canonical_json.specs.Json.{Json, Items, inil, icons}
 use Rattle.canonical_json.specs.Read.{raw}
 use Rattle.canonical_json.specs.Fields.{items, size, keep}
 use Rattle.lookup.specs.Place.{Stands}
-use Rattle.lookup.specs.declared.Found.TheVariants.{Nothing}
 use Rattle.lookup.proofs.StandsLaws.{known-none}
 use Rattle.rules.specs.Limits.{max_entries, key_size, signature_size}
 use Rattle.rules.specs.Take.{◌>>=◌, must, hex, each}
@@ -30,21 +31,21 @@ use Rattle.envelope.proofs.OpenLaws.{cut, held}
 -- ## One entry
 
 module _ (v : Json) where
-  pub no-keyid : none ≡ must (bytes "keyid") (hex key_size) v → none ≡ entry v
+  pub no-keyid : None ≡ must (bytes "keyid") (hex key_size) v → None ≡ entry v
   unfolding entry bind
   no-keyid e = rw (← e)
 
-  module _ (keyid : Bytes) (e : some keyid ≡ must (bytes "keyid") (hex key_size) v) where
-    pub no-sig : none ≡ must (bytes "sig") (hex signature_size) v → none ≡ entry v
+  module _ (keyid : Bytes) (e : Some keyid ≡ must (bytes "keyid") (hex key_size) v) where
+    pub no-sig : None ≡ must (bytes "sig") (hex signature_size) v → None ≡ entry v
     unfolding entry bind
     no-sig f = rw (← e, ← f)
 
-    pub entry-is : (sig : Bytes) → some sig ≡ must (bytes "sig") (hex signature_size) v → some (record { keyid = keyid; sig = sig }) ≡ entry v
+    pub entry-is : (sig : Bytes) → Some sig ≡ must (bytes "sig") (hex signature_size) v → Some (record { keyid = keyid; sig = sig }) ≡ entry v
     unfolding entry bind
     entry-is sig f = rw (← e, ← f)
 
 -- the form is broken
-pub broken-entry : (s : Bytes) (p : ℕ) (r : EntryAt) → r.ok ≡ false → r.end ≡ Nothing → ((v : Json) → Stands s p v → none ≡ entry v) → ReadsEntry s p r
+pub broken-entry : (s : Bytes) (p : ℕ) (r : EntryAt) → r.ok ≡ false → r.end ≡ None → ((v : Json) → Stands s p v → None ≡ entry v) → ReadsEntry s p r
 unfolding view_entry
 broken-entry s p r o e f = record {
   means = λ v h. cut _ _ o ∙ f v h;
@@ -56,38 +57,38 @@ broken-entry s p r o e f = record {
 -- ## Its keyid
 
 module _ (s : Bytes) (r : EntryAt) (v : Json) (e : view_entry s r ≡ entry v) where
-  pub keyid-broken : r.ok ≡ false → none ≡ keyid_of v
+  pub keyid-broken : r.ok ≡ false → None ≡ keyid_of v
   unfolding keyid_of view_entry bind
-  keyid-broken q = let k : none ≡ entry v = sym (cut _ _ q) ∙ e in rw (← k)
+  keyid-broken q = let k : None ≡ entry v = sym (cut _ _ q) ∙ e in rw (← k)
 
-  pub keyid-is : r.ok ≡ true → (k : Bytes) → k ≡ undo (raw (drop r.keyid s)) → some k ≡ keyid_of v
+  pub keyid-is : r.ok ≡ true → (k : Bytes) → k ≡ undo (raw (drop r.keyid s)) → Some k ≡ keyid_of v
   unfolding keyid_of view_entry bind
   keyid-is q k z =
-      let t : some (record { keyid = undo (raw (drop r.keyid s)); sig = undo (raw (drop r.sig s)) }) ≡ entry v = sym (held _ _ q) ∙ e in
-      rw (← t) (ap some z)
+      let t : Some (record { keyid = undo (raw (drop r.keyid s)); sig = undo (raw (drop r.sig s)) }) ≡ entry v = sym (held _ _ q) ∙ e in
+      rw (← t) (ap Some z)
 
 -- ## All of them
 
-each-keyid : (xs : Items) → (each entry xs >>= λ es. some (keyids_of es)) ≡ each keyid_of xs
+each-keyid : (xs : Items) → (each entry xs >>= λ es. Some (keyids_of es)) ≡ each keyid_of xs
 unfolding each keyid_of keyids_of bind
 each-keyid inil = refl
 each-keyid (icons v vs) = rw (← each-keyid vs) (go (entry v) (each entry vs))
   where
-    go : (o : Option Entry) (p : Option (List Entry)) → ((o >>= λ a. p >>= λ more. some (a ∷ more)) >>= λ es. some (keyids_of es))
-        ≡ ((o >>= λ e. some e.keyid) >>= λ k. (p >>= λ es. some (keyids_of es)) >>= λ more. some (k ∷ more))
-    go none p = refl
-    go (some a) none = refl
-    go (some a) (some es) = refl
+    go : (o : Option Entry) (p : Option (List Entry)) → ((o >>= λ a. p >>= λ more. Some (a ∷ more)) >>= λ es. Some (keyids_of es))
+        ≡ ((o >>= λ e. Some e.keyid) >>= λ k. (p >>= λ es. Some (keyids_of es)) >>= λ more. Some (k ∷ more))
+    go None p = refl
+    go (Some a) None = refl
+    go (Some a) (Some es) = refl
 
 pub keyids-each : (v : Json) → keyids v ≡ each_item 0 max_entries keyid_of v
 unfolding keyids entries each_item bind keep
 keyids-each v = go (items v)
   where
-    kept : (b : Bool) (xs : Items) → ((keep b xs >>= each entry) >>= λ es. some (keyids_of es)) ≡ (keep b xs >>= each keyid_of)
+    kept : (b : Bool) (xs : Items) → ((keep b xs >>= each entry) >>= λ es. Some (keyids_of es)) ≡ (keep b xs >>= each keyid_of)
     kept true xs = each-keyid xs
     kept false xs = refl
 
-    go : (o : Option Items) → ((o >>= λ xs. keep (leb (size xs) max_entries) xs >>= each entry) >>= λ es. some (keyids_of es))
+    go : (o : Option Items) → ((o >>= λ xs. keep (leb (size xs) max_entries) xs >>= each entry) >>= λ es. Some (keyids_of es))
         ≡ (o >>= λ xs. keep (leb 0 (size xs) && leb (size xs) max_entries) xs >>= each keyid_of)
-    go none = refl
-    go (some xs) = rw (le-leb 0 (size xs) (omega arith)) (kept (leb (size xs) max_entries) xs)
+    go None = refl
+    go (Some xs) = rw (le-leb 0 (size xs) (omega arith)) (kept (leb (size xs) max_entries) xs)

@@ -1,6 +1,8 @@
 -- The header, step by step, and how a header and a body make a role's file.
 use mathlib.Core.Path.{◌≡◌, refl, sym}
-use mathlib.Core.Option.{Option, none, some, bind}
+use Rattle.std.specs.declared.option.Option.{Option}
+use Rattle.std.specs.declared.option.Option.TheVariants.{None, Some}
+use Rattle.canonical_json.specs.Options.{bind}
 use mathlib.Core.List.{[], ◌∷◌}
 use mathlib.Core.Bool.{Bool, true, false, and-true}
 use Prim.Native.Nat.{ℕ}
@@ -49,26 +51,26 @@ spec_dot t e x f = rw (← e) f
 -- ## The header
 
 module _ (type : Bytes) (v : Json) (typed : Bool) (e : keep typed tt ≡ must (bytes "_type") (word type) v) where
-  pub no_type : typed ≡ false → none ≡ header type v
+  pub no_type : typed ≡ false → None ≡ header type v
   unfolding header bind keep
   no_type q = rw (← e, q)
 
   module _ (q : typed ≡ true) (ok known : Bool) (f : keep ok known ≡ must (bytes "spec_version") spec_known v) where
-    pub no-spec : ok ≡ false → none ≡ header type v
+    pub no-spec : ok ≡ false → None ≡ header type v
     unfolding header bind keep
     no-spec p = rw (← e, q, ← f, p)
 
     module _ (p : ok ≡ true) where
-      pub no-version : none ≡ version v → none ≡ header type v
+      pub no-version : None ≡ version v → None ≡ header type v
       unfolding header bind keep
       no-version g = rw (← e, q, ← f, p, ← g)
 
-      module _ (n : ℕ) (g : some n ≡ version v) where
-        pub no_date : none ≡ must (bytes "expires") date v → none ≡ header type v
+      module _ (n : ℕ) (g : Some n ≡ version v) where
+        pub no_date : None ≡ must (bytes "expires") date v → None ≡ header type v
         unfolding header bind keep
         no_date h = rw (← e, q, ← f, p, ← g, ← h)
 
-        pub header_is : (t : ℤ) → some t ≡ must (bytes "expires") date v → keep true (record { known = known; version = n; expires = t }) ≡ header type v
+        pub header_is : (t : ℤ) → Some t ≡ must (bytes "expires") date v → keep true (record { known = known; version = n; expires = t }) ≡ header type v
         unfolding header bind keep
         header_is t h = rw (← e, q, ← f, p, ← g, ← h)
 
@@ -82,39 +84,39 @@ file t n x b = record { spec_version = t; version = n; expires = x; body = b }
 
 -- a header's steps and a file's steps go together: T is told of both
 module _ {A : Type 0} (body : Option A) (T : Option Header → Option (File A) → Type 0)
-    (lacks : T none none) (has : (t : Bytes) (n : ℕ) (x : ℤ) → T (some (head (known_spec t) n x)) (body >>= λ b. some (file t n x b))) where
+    (lacks : T None None) (has : (t : Bytes) (n : ℕ) (x : ℤ) → T (Some (head (known_spec t) n x)) (body >>= λ b. Some (file t n x b))) where
   together : (o : Option (Unit {0})) (w : Option Json) (n : Option ℕ) (x : Option ℤ)
-      → T (o >>= λ _. (w >>= λ w. text w >>= λ t. some (known_spec t)) >>= λ known. n >>= λ n. x >>= λ x. some (head known n x))
-      (o >>= λ _. (w >>= text) >>= λ t. n >>= λ n. x >>= λ x. body >>= λ b. some (file t n x b))
+      → T (o >>= λ _. (w >>= λ w. text w >>= λ t. Some (known_spec t)) >>= λ known. n >>= λ n. x >>= λ x. Some (head known n x))
+      (o >>= λ _. (w >>= text) >>= λ t. n >>= λ n. x >>= λ x. body >>= λ b. Some (file t n x b))
   unfolding bind
-  together none w n x = lacks
-  together (some o) none n x = lacks
-  together (some o) (some w) n x = spec (text w) n x
+  together None w n x = lacks
+  together (Some o) None n x = lacks
+  together (Some o) (Some w) n x = spec (text w) n x
     where
       spec : (t : Option Bytes) (n : Option ℕ) (x : Option ℤ)
-          → T ((t >>= λ t. some (known_spec t)) >>= λ known. n >>= λ n. x >>= λ x. some (head known n x))
-          (t >>= λ t. n >>= λ n. x >>= λ x. body >>= λ b. some (file t n x b))
-      spec none n x = lacks
-      spec (some t) none x = lacks
-      spec (some t) (some n) none = lacks
-      spec (some t) (some n) (some x) = has t n x
+          → T ((t >>= λ t. Some (known_spec t)) >>= λ known. n >>= λ n. x >>= λ x. Some (head known n x))
+          (t >>= λ t. n >>= λ n. x >>= λ x. body >>= λ b. Some (file t n x b))
+      spec None n x = lacks
+      spec (Some t) None x = lacks
+      spec (Some t) (Some n) None = lacks
+      spec (Some t) (Some n) (Some x) = has t n x
 
 module _ {A : Type 0} (type : Bytes) (body : Json → Option A) (v : Json) where
-  steps : (T : Option Header → Option (File A) → Type 0) → T none none
-      → ((t : Bytes) (n : ℕ) (x : ℤ) → T (some (head (known_spec t) n x)) (body v >>= λ b. some (file t n x b))) → T (header type v) (file_of type body v)
+  steps : (T : Option Header → Option (File A) → Type 0) → T None None
+      → ((t : Bytes) (n : ℕ) (x : ℤ) → T (Some (head (known_spec t) n x)) (body v >>= λ b. Some (file t n x b))) → T (header type v) (file_of type body v)
   unfolding header file_of spec_known must
   steps T lacks has = together (body v) T lacks has (must (bytes "_type") (word type) v) (field (bytes "spec_version") v) (version v) (must (bytes "expires") date v)
 
-  pub no-file : none ≡ header type v → none ≡ file_of type body v
-  no-file = steps (λ h f. none ≡ h → none ≡ f) (λ e. refl) (λ t n x e. none-not-some e)
+  pub no-file : None ≡ header type v → None ≡ file_of type body v
+  no-file = steps (λ h f. None ≡ h → None ≡ f) (λ e. refl) (λ t n x e. none-not-some e)
 
-  pub no_body : none ≡ body v → none ≡ file_of type body v
+  pub no_body : None ≡ body v → None ≡ file_of type body v
   unfolding bind
-  no_body e = steps (λ h f. none ≡ f) refl (λ t n x. rw (← e) refl)
+  no_body e = steps (λ h f. None ≡ f) refl (λ t n x. rw (← e) refl)
 
-  pub file-by : (h : Header) → some h ≡ header type v
-      → (t : Bytes) × (known_spec t ≡ h.known) × (file_of type body v ≡ (body v >>= λ b. some (file t h.version h.expires b)))
+  pub file-by : (h : Header) → Some h ≡ header type v
+      → (t : Bytes) × (known_spec t ≡ h.known) × (file_of type body v ≡ (body v >>= λ b. Some (file t h.version h.expires b)))
   file-by h =
-      steps (λ o f. some h ≡ o → (t : Bytes) × (known_spec t ≡ h.known) × (f ≡ (body v >>= λ b. some (file t h.version h.expires b))))
+      steps (λ o f. Some h ≡ o → (t : Bytes) × (known_spec t ≡ h.known) × (f ≡ (body v >>= λ b. Some (file t h.version h.expires b))))
       (λ e. none-not-some (sym e))
       (λ t n x e. let q = some_is e in (t, rw q refl, rw q refl))

@@ -1,7 +1,8 @@
 -- The one text of an entry with no members but "keyid" and "sig": it is read as that entry.
 use mathlib.Core.Path.{◌≡◌, refl, sym, ap, ◌∙◌}
 use mathlib.Core.List.{◌++◌}
-use mathlib.Core.Option.{some, bind}
+use Rattle.std.specs.declared.option.Option.TheVariants.{Some}
+use Rattle.canonical_json.specs.Options.{bind}
 use mathlib.Core.Bool.{true}
 use Prim.Native.Nat.{ℕ, ◌+◌, ◌*◌, ◌≤◌, ◌<◌}
 use lib.ListN.{length, take, drop}
@@ -13,7 +14,7 @@ use Rattle.canonical_json.specs.Read.{got, read, raw}
 use Rattle.canonical_json.specs.Fields.{field, members, lookup, text, keep}
 use Rattle.canonical_json.proofs.Rfc.{to_rfc}
 use Rattle.canonical_json.proofs.Complete.{complete-object}
-use Rattle.lookup.specs.declared.Found.TheVariants.{At}
+use Rattle.std.specs.declared.option.Option.TheVariants.{None, Some}
 use Rattle.lookup.proofs.StandsLaws.{known_as, takes_of, ends_of}
 use Rattle.rules.specs.Limits.{key_size, signature_size}
 use Rattle.rules.specs.Take.{must, hex, unhex}
@@ -35,7 +36,7 @@ module _ (keyid sig q : Bytes) (h : all_hex keyid ≡ true) (k : all_hex sig ≡
   plain-valid = (to_rfc (bytes "keyid") refl, hex-valid keyid h, (refl, to_rfc (bytes "sig") refl, hex-valid sig k, tt))
 
 -- what it says
-plain-says : (keyid sig : Bytes) → is_hex key_size keyid ≡ true → is_hex signature_size sig ≡ true → some (record { keyid = undo keyid; sig = undo sig }) ≡ entry (plain_entry keyid sig)
+plain-says : (keyid sig : Bytes) → is_hex key_size keyid ≡ true → is_hex signature_size sig ≡ true → Some (record { keyid = undo keyid; sig = undo sig }) ≡ entry (plain_entry keyid sig)
 unfolding plain_entry entry must hex unhex field members lookup text keep bind same
 plain-says keyid sig h k = rw (h, k) refl
 
@@ -63,14 +64,14 @@ module _ (s : Bytes) (p e : ℕ) (r : EntryAt)
       ∙ sym (plain-text id_text sig_text (drop e s) h k) in
       ap (read max_depth) t ∙ complete-object _ max_depth (drop e s) (plain-valid id_text sig_text (drop e s) h k)
 
-  pub plain-reads : r.ok ≡ true → r.end ≡ At e → p < e → e ≤ length s → ReadsEntry s p r
+  pub plain-reads : r.ok ≡ true → r.end ≡ Some e → p < e → e ≤ length s → ReadsEntry s p r
   unfolding view_entry keep id_text sig_text
   plain-reads ok end lo hi = record {
     means =
         rw ok
         (takes_of s p _ _ plain-read entry _
-        (ap (λ (x : Bytes). some (record { keyid = undo x; sig = undo (raw (drop r.sig s)) })) (digits-raw key_size s r.keyid keyid)
-        ∙ ap (λ (x : Bytes). some (record { keyid = undo id_text; sig = undo x })) (digits-raw signature_size s r.sig sig)
+        (ap (λ (x : Bytes). Some (record { keyid = undo x; sig = undo (raw (drop r.sig s)) })) (digits-raw key_size s r.keyid keyid)
+        ∙ ap (λ (x : Bytes). Some (record { keyid = undo id_text; sig = undo x })) (digits-raw signature_size s r.sig sig)
         ∙ plain-says id_text sig_text (ap (is_hex key_size) (sym (digits-raw key_size s r.keyid keyid)) ∙ digits-is key_size s r.keyid keyid)
         (ap (is_hex signature_size) (sym (digits-raw signature_size s r.sig sig)) ∙ digits-is signature_size s r.sig sig)));
     keyid = λ _. digits-is key_size s r.keyid keyid;

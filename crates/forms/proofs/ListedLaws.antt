@@ -1,6 +1,8 @@
 -- What is said of a listed file, step by step.
 use mathlib.Core.Path.{◌≡◌, refl}
-use mathlib.Core.Option.{Option, none, some, bind}
+use Rattle.std.specs.declared.option.Option.{Option}
+use Rattle.std.specs.declared.option.Option.TheVariants.{None, Some}
+use Rattle.canonical_json.specs.Options.{bind}
 use mathlib.Core.Bool.{Bool, true, false}
 use Prim.Native.Nat.{ℕ}
 use Rattle.base.specs.Bytes.{Bytes, bytes}
@@ -14,23 +16,23 @@ use Rattle.forms.specs.View.{view_id_at, view_may_id}
 use Rattle.forms.specs.declared.IdAt.{IdAt}
 
 -- a record around what is kept
-pub keep_in : {A B : Type 0} (b : Bool) (a : A) (g : A → B) → keep b (g a) ≡ (keep b a >>= λ x. some (g x))
+pub keep_in : {A B : Type 0} (b : Bool) (a : A) (g : A → B) → keep b (g a) ≡ (keep b a >>= λ x. Some (g x))
 unfolding keep bind
 keep_in true a g = refl
 keep_in false a g = refl
 
 -- a digest that is given
-pub digest-given : (r : IdAt) → view_may_id (record { ok = r.ok; given = true; id = r.id }) ≡ (view_id_at r >>= λ d. some (some d))
+pub digest-given : (r : IdAt) → view_may_id (record { ok = r.ok; given = true; id = r.id }) ≡ (view_id_at r >>= λ d. Some (Some d))
 unfolding view_may_id view_id_at keep
-digest-given r = keep_in r.ok (view_id r.id) some
+digest-given r = keep_in r.ok (view_id r.id) Some
 
 module _ (v : Json) where
-  pub no-version : none ≡ version v → none ≡ listed v
+  pub no-version : None ≡ version v → None ≡ listed v
   unfolding listed bind
   no-version e = rw (← e)
 
-  module _ (n : ℕ) (e : some n ≡ version v) (ok : Bool) (l : Option ℕ) (f : keep ok l ≡ may (bytes "length") (number 0 max_length) v) where
-    pub no_length : ok ≡ false → none ≡ listed v
+  module _ (n : ℕ) (e : Some n ≡ version v) (ok : Bool) (l : Option ℕ) (f : keep ok l ≡ may (bytes "length") (number 0 max_length) v) where
+    pub no_length : ok ≡ false → None ≡ listed v
     unfolding listed bind keep
     no_length q = rw (← e, ← f, q)
 

@@ -1,6 +1,8 @@
 -- Steps of a form at a place of the text: what is nothing stays nothing, and what is found is handed on.
 use mathlib.Core.Path.{◌≡◌, sym, ◌∙◌}
-use mathlib.Core.Option.{Option, none, some, bind}
+use Rattle.std.specs.declared.option.Option.{Option}
+use Rattle.std.specs.declared.option.Option.TheVariants.{None, Some}
+use Rattle.canonical_json.specs.Options.{bind}
 use Prim.Native.Nat.{ℕ}
 use lib.ListN.{drop}
 use Rattle.base.specs.Bytes.{Bytes}
@@ -9,52 +11,50 @@ use Rattle.canonical_json.specs.Read.{raw}
 use Rattle.canonical_json.specs.Fields.{text, field}
 use Rattle.lookup.specs.Place.{Stands, PlaceOf, Finds, Takes}
 use Rattle.lookup.specs.Leaves.{string_in}
-use Rattle.lookup.specs.declared.Found.{Found}
-use Rattle.lookup.specs.declared.Found.TheVariants.{Nothing, At}
 use Rattle.lookup.proofs.StringLaws.{no_text, text-there}
 use Rattle.rules.specs.Take.{◌>>=◌, must, may, inside}
 
 module _ {A B : Type 0} {o : Option A} (f : A → Option B) where
-  pub stop : o ≡ none → (o >>= f) ≡ none
+  pub stop : o ≡ None → (o >>= f) ≡ None
   unfolding bind
   stop e = rw e
 
-  pub on : {a : A} → o ≡ some a → (o >>= f) ≡ f a
+  pub on : {a : A} → o ≡ Some a → (o >>= f) ≡ f a
   unfolding bind
   on e = rw e
 
 -- ## A member, by where it was found
 
-module _ (s : Bytes) (p : ℕ) (k : Bytes) {r : Found} (w : Finds s p (field k) r) where
-  lacks : r ≡ Nothing → (v : Json) → Stands s p v → field k v ≡ none
+module _ (s : Bytes) (p : ℕ) (k : Bytes) {r : Option ℕ} (w : Finds s p (field k) r) where
+  lacks : r ≡ None → (v : Json) → Stands s p v → field k v ≡ None
   lacks q v h = rw q at (w v h)
 
-  holds : (x : ℕ) → r ≡ At x → (v : Json) → Stands s p v → PlaceOf s (At x) (field k v)
+  holds : (x : ℕ) → r ≡ Some x → (v : Json) → Stands s p v → PlaceOf s (Some x) (field k v)
   holds x q v h = rw q at (w v h)
 
   module _ {A : Type 0} (f : Json → Option A) (o : Option A) where
-    pub must-none : r ≡ Nothing → o ≡ none → Takes s p (must k f) o
+    pub must-none : r ≡ None → o ≡ None → Takes s p (must k f) o
     unfolding must
     must-none q e v h = e ∙ sym (stop f (lacks q v h))
 
-    pub must-at : (x : ℕ) → r ≡ At x → Takes s x f o → Takes s p (must k f) o
+    pub must-at : (x : ℕ) → r ≡ Some x → Takes s x f o → Takes s p (must k f) o
     unfolding must
     must-at x q t v h = let z = holds x q v h in t z.0 z.2 ∙ sym (on f z.1)
 
   module _ {A : Type 0} (f : Json → Option A) (o : Option (Option A)) where
-    pub may_none : r ≡ Nothing → o ≡ some none → Takes s p (may k f) o
+    pub may_none : r ≡ None → o ≡ Some None → Takes s p (may k f) o
     unfolding may inside
     may_none q e v h = rw (lacks q v h) e
 
-    pub may_at : (x : ℕ) → r ≡ At x → (i : Option A) → Takes s x f i → o ≡ (i >>= λ a. some (some a)) → Takes s p (may k f) o
+    pub may_at : (x : ℕ) → r ≡ Some x → (i : Option A) → Takes s x f i → o ≡ (i >>= λ a. Some (Some a)) → Takes s p (may k f) o
     unfolding may inside
     may_at x q i t e v h = let z = holds x q v h in rw (z.1, ← t z.0 z.2) e
 
 -- ## A string
 
-module _ (s : Bytes) (p : ℕ) {r : Found} (q : r ≡ string_in p (drop p s)) {A : Type 0} (g : Bytes → Option A) (o : Option A) where
-  pub text-none : r ≡ Nothing → o ≡ none → Takes s p (λ v. text v >>= g) o
+module _ (s : Bytes) (p : ℕ) {r : Option ℕ} (q : r ≡ string_in p (drop p s)) {A : Type 0} (g : Bytes → Option A) (o : Option A) where
+  pub text-none : r ≡ None → o ≡ None → Takes s p (λ v. text v >>= g) o
   text-none n e v h = e ∙ sym (stop g (no_text s p v h r q n))
 
-  pub text_at : (i : ℕ) → r ≡ At i → o ≡ g (raw (drop i s)) → Takes s p (λ v. text v >>= g) o
+  pub text_at : (i : ℕ) → r ≡ Some i → o ≡ g (raw (drop i s)) → Takes s p (λ v. text v >>= g) o
   text_at i n e v h = e ∙ sym (on g (text-there s p v h r q i n))

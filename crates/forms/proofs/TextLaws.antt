@@ -1,7 +1,7 @@
 -- Strings of a known length: a buffer that is filled, hex that is undone, a date.
 use mathlib.Core.Path.{◌≡◌, refl, sym, ap, ◌∙◌}
 use mathlib.Core.List.{[], ◌∷◌, ◌++◌, append-nil}
-use mathlib.Core.Option.{none, some}
+use Rattle.std.specs.declared.option.Option.TheVariants.{None, Some}
 use mathlib.Core.Bool.{Bool, true, false, cond, and-true, and-false}
 use Prim.Native.Nat.{ℕ, zero, suc, ◌+◌, ◌-◌, ◌*◌, ◌<◌}
 use native.Mathlib.Omega.{arith}
@@ -23,8 +23,7 @@ use Rattle.canonical_json.specs.Fields.{keep}
 use Rattle.canonical_json.proofs.Rows.{found}
 use Rattle.canonical_json.proofs.Rfc.{to_rfc}
 use Rattle.lookup.specs.Leaves.{copied, Copies}
-use Rattle.lookup.specs.declared.Found.{Found}
-use Rattle.lookup.specs.declared.Found.TheVariants.{At}
+use Rattle.std.specs.declared.option.Option.{Option}
 use Rattle.lookup.proofs.StandsLaws.{there}
 use Rattle.lookup.proofs.StringLaws.{raw-bytes}
 use Rattle.date.specs.Calendar.{form, date_of}
@@ -68,11 +67,11 @@ unfolding unhex keep
 unhex-undone n t zeros out ok z u = step ok (u.answer ∙ rw z) u.buffer
   where
     step : (ok : Bool) → ok ≡ is_hex n t → out ≡ cond ok (undo t) zeros → keep ok (window out 0 n) ≡ keep (is_hex n t) (undo t)
-    step true k e = rw (← k) (ap some (rw e (whole-window (undo t) n (undo-length n t (hex-parts n t (sym k)).0))))
+    step true k e = rw (← k) (ap Some (rw e (whole-window (undo t) n (undo-length n t (hex-parts n t (sym k)).0))))
     step false k e = rw (← k) refl
 
 module _ (n : ℕ) (t b after : Bytes) (done : Bool) (long : length b ≡ n * 2) (w : Fills t b done after) where
-  pub unhex-not : done ≡ false → none ≡ unhex n t
+  pub unhex-not : done ≡ false → None ≡ unhex n t
   unfolding unhex keep
   unhex-not d =
       let x : (length t ≡ n * 2 → ⊥) = λ (e : length t ≡ n * 2). eqb-false (length t) (length b) (sym w.fits ∙ d) (e ∙ sym long) in
@@ -202,11 +201,11 @@ module _ (n : ℕ) (s : Bytes) (i : ℕ) where
   digits_standing q t = same_test (digits_at n s i) (is_hex n (raw (drop i s))) digits-is (stand_digits q t)
 
 module _ (n : ℕ) (t : Bytes) where
-  pub unhex-no : is_hex n t ≡ false → none ≡ unhex n t
+  pub unhex-no : is_hex n t ≡ false → None ≡ unhex n t
   unfolding unhex keep
   unhex-no h = rw h
 
-  pub unhex_yes : is_hex n t ≡ true → some (undo t) ≡ unhex n t
+  pub unhex_yes : is_hex n t ≡ true → Some (undo t) ≡ unhex n t
   unfolding unhex keep
   unhex_yes h = rw h
 
@@ -215,13 +214,13 @@ module _ (n : ℕ) (t : Bytes) where
   unhex-held ok a e h = (kept-is ok a (e ∙ sym (unhex_yes h))).1
 
 -- a place that was found
-pub hex-at : (n : ℕ) (s : Bytes) (r : Found) (i : ℕ) → r ≡ At i → HexAt n s r → is_hex n (raw (drop i s)) ≡ true
+pub hex-at : (n : ℕ) (s : Bytes) (r : Option ℕ) (i : ℕ) → r ≡ Some i → HexAt n s r → is_hex n (raw (drop i s)) ≡ true
 hex-at n s r i q h = rw q at h
 
 -- ## A date
 
 module _ (t b after : Bytes) (done : Bool) (long : length b ≡ 20) (w : Fills t b done after) where
-  pub date-not : done ≡ false → none ≡ date_of t
+  pub date-not : done ≡ false → None ≡ date_of t
   unfolding date_of
   date-not d =
       let x : (length form ≡ length t → ⊥) = λ (e : length form ≡ length t). eqb-false (length t) (length b) (sym w.fits ∙ d) (sym e ∙ sym long) in

@@ -1,5 +1,5 @@
 -- Lists with limits: lo to hi elements of an array, or members of an object, each of a form.
-use Rattle.std.proofs.Math.Option.{Option}
+use Rattle.std.specs.declared.option.Option.{Option}
 use Rattle.std.specs.Prelude.{List, ◌&&◌, ℕ, leb}
 use Rattle.base.specs.Bytes.{Bytes}
 use Rattle.canonical_json.specs.Json.{Json}

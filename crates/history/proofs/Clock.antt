@@ -1,7 +1,8 @@
 -- The clock (A8). Every call keeps the start time in force or sets a later one, so the one in force is the latest of all that were set.
 use mathlib.Core.Path.{◌≡◌, refl, sym, ap, ◌∙◌, subst}
 use mathlib.Core.Logic.{◌⊎◌, inl, inr}
-use mathlib.Core.Option.{Option, none, some}
+use Rattle.std.specs.declared.option.Option.{Option}
+use Rattle.std.specs.declared.option.Option.TheVariants.{None, Some}
 use mathlib.Core.List.{List, [], ◌∷◌, Memᴰ}
 use native.Mathlib.Decide.{ℕ_discrete}
 use lib.IntN.{ℤ}
@@ -21,8 +22,8 @@ unfolding trusting after_root with_root with_timestamp with_snapshot with_target
 trusting-start s (a_root r) = go s.root
   where
     go : (o : Option Root) → (after_root s o r).start ≡ s.start
-    go none = refl
-    go (some old) = refl
+    go None = refl
+    go (Some old) = refl
 trusting-start s (a_timestamp t) = refl
 trusting-start s (a_snapshot n) = refl
 trusting-start s (a_targets g) = refl
@@ -32,8 +33,8 @@ unfolding accepted trusting_if
 accepted-start s c = go (offered c)
   where
     go : (o : Option Item) → (trusting_if (started s c) o).start ≡ (started s c).start
-    go none = refl
-    go (some x) = trusting-start (started s c) x
+    go None = refl
+    go (Some x) = trusting-start (started s c) x
 
 -- a call leaves the start time, or it is an accepted cycle
 start-next : (s : State) (c : Call) → ((next s c).start ≡ s.start) ⊎ Sets (calls s c) (next s c).start

@@ -1,7 +1,7 @@
 -- Demand 3, proved: one claim about every history.
 use mathlib.Core.Path.{◌≡◌, refl, ap, ◌∙◌, subst, subst₂}
 use mathlib.Core.Logic.{◌↔◌}
-use mathlib.Core.Option.{some}
+use Rattle.std.specs.declared.option.Option.TheVariants.{Some}
 use mathlib.Core.List.{List, [], ◌∷◌, ◌++◌, Memᴰ}
 use Prim.Native.Nat.{◌+◌}
 use Rattle.date.proofs.OrderLaws.{≤ℤ_trans}
@@ -96,7 +96,7 @@ in_events h s c (Memᴰ.tail m) = m
 one-entries : {A : Type 0} {rd : Read A} {a b : A} {es fs : List Bytes} → rd ≡ says a es → rd ≡ says b fs → es ≡ fs
 one-entries p q = cc
 
-root-exactly : (s : State) → RootRead s → (held : Root) → s.root ≡ some held → (o : RootOffer) (r : Root) (es : List Bytes)
+root-exactly : (s : State) → RootRead s → (held : Root) → s.root ≡ Some held → (o : RootOffer) (r : Root) (es : List Bytes)
     → root_in o.file ≡ says r es → GoodRow es o.held_row → GoodRow es o.own_row
     → BecomesTrusted (calls s (new_root o)) (a_root r)
     ↔ ((r.version ≡ held.version + 1) × Enough held.root_role es o.held_row × Enough r.root_role es o.own_row)
@@ -136,7 +136,7 @@ demand3 h =
     let s = installed h.install in
     let read = read-installed h.install h.accepted in
     let w = install-good h.install h.accepted in
-    let first : s.root ≡ some w.0 =
+    let first : s.root ≡ Some w.0 =
     ap (λ (x : State). x.root) (install-after h.install w.0 w.1.entries w.1.reads h.accepted)
     in
     let last = (rising-run s read h.calls).root w.0 first in

@@ -4,7 +4,7 @@
 use mathlib.Core.Path.{◌≡◌, refl, sym, ap, ◌∙◌, subst}
 use mathlib.Core.Logic.{inl, inr}
 use mathlib.Core.Bool.{Bool, true, false}
-use mathlib.Core.Option.{some}
+use Rattle.std.specs.declared.option.Option.TheVariants.{Some}
 use mathlib.Core.List.Memᴰ
 use mathlib.Core.List.{List, [], ◌∷◌, ◌++◌, nil≢cons, head-eq_of_cons-eq, tail-eq_of_cons-eq}
 use Prim.Native.Nat.{◌≤◌}
@@ -30,7 +30,7 @@ use Rattle.history.proofs.Clock.{clock-next, clock-installed}
 -- ## The two orders
 
 pub record Rising (a b : State) : Type 0 where
-  pub root : (r : Root) → a.root ≡ some r → (r' : Root) × (b.root ≡ some r') × (r.version ≤ r'.version)
+  pub root : (r : Root) → a.root ≡ Some r → (r' : Root) × (b.root ≡ Some r') × (r.version ≤ r'.version)
   pub clock : a.start ≤ℤ b.start
 
 -- a later snapshot: whatever keeps its names keeps the earlier one's, and its targets version is not lower
@@ -39,9 +39,9 @@ pub record Covers (n n' : Snapshot) : Type 0 where
   pub targets : (targets_entry n).version ≤ (targets_entry n').version
 
 pub record Onward (a b : State) : Type 0 where
-  pub timestamp : (t : Timestamp) → a.timestamp ≡ some t
-      → (t' : Timestamp) × (b.timestamp ≡ some t') × (t.version ≤ t'.version) × (t.snapshot.version ≤ t'.snapshot.version)
-  pub snapshot : (n : Snapshot) → a.snapshot ≡ some n → (n' : Snapshot) × (b.snapshot ≡ some n') × Covers n n'
+  pub timestamp : (t : Timestamp) → a.timestamp ≡ Some t
+      → (t' : Timestamp) × (b.timestamp ≡ Some t') × (t.version ≤ t'.version) × (t.snapshot.version ≤ t'.snapshot.version)
+  pub snapshot : (n : Snapshot) → a.snapshot ≡ Some n → (n' : Snapshot) × (b.snapshot ≡ Some n') × Covers n n'
 
 rising-root : (a b : State) → b.root ≡ a.root → a.start ≤ℤ b.start → Rising a b
 rising-root a b e l = record { root = λ r h. (r, e ∙ h, le_refl r.version); clock = l }
@@ -90,7 +90,7 @@ onward_trans p q =
 -- ## Each call keeps them
 
 -- the next root is above the held one
-above_root : {s : State} {c : Call} {r : Root} → TrustedBy s c (a_root r) → (h : Root) → s.root ≡ some h → h.version ≤ r.version
+above_root : {s : State} {c : Call} {r : Root} → TrustedBy s c (a_root r) → (h : Root) → s.root ≡ Some h → h.version ≤ r.version
 above_root (root {o} {r} g) h e =
     subst (λ (x : Root). x.version ≤ r.version) (one-held g.is_held e) (let v = g.version in omega arith)
 
@@ -275,7 +275,7 @@ module _ (h : History) (e₁ e₂ : Event) (mid : List Event) where
       let w = above (p.by _ k₂).1 x.0 x.1 in
       (le_trans x.2 w.0, le_trans x.3 w.1)
     where
-      above : {s : State} {c : Call} {t : Timestamp} → TrustedBy s c (a_timestamp t) → (h : Timestamp) → s.timestamp ≡ some h
+      above : {s : State} {c : Call} {t : Timestamp} → TrustedBy s c (a_timestamp t) → (h : Timestamp) → s.timestamp ≡ Some h
           → (h.version ≤ t.version) × (h.snapshot.version ≤ t.snapshot.version)
       above (timestamp g) h e = (le_of_lt (g.newer h e), g.not_lower h e)
 
@@ -292,8 +292,8 @@ module _ (h : History) (e₁ e₂ : Event) (mid : List Event) where
       let low = t.3 in
       (omega arith, n.2.names n₂.names w.1)
     where
-      above : {s : State} {c : Call} {n : Snapshot} → TrustedBy s c (a_snapshot n) → (t : Timestamp) → s.timestamp ≡ some t
-          → (h : Snapshot) → s.snapshot ≡ some h → (n.version ≡ t.snapshot.version) × Keeps h.names n.names
+      above : {s : State} {c : Call} {n : Snapshot} → TrustedBy s c (a_snapshot n) → (t : Timestamp) → s.timestamp ≡ Some t
+          → (h : Snapshot) → s.snapshot ≡ Some h → (n.version ≡ t.snapshot.version) × Keeps h.names n.names
       above (snapshot {n} g) t et h eh = (
         subst (λ (x : Timestamp). n.version ≡ x.snapshot.version) (one-held g.on.timestamp_held et) g.version,
         g.keeps h eh,
@@ -311,7 +311,7 @@ module _ (h : History) (e₁ e₂ : Event) (mid : List Event) where
       let low = n.2.targets in
       omega arith
     where
-      above : {s : State} {c : Call} {g : Targets} → TrustedBy s c (a_targets g) → (n : Snapshot) → s.snapshot ≡ some n
+      above : {s : State} {c : Call} {g : Targets} → TrustedBy s c (a_targets g) → (n : Snapshot) → s.snapshot ≡ Some n
           → g.version ≡ (targets_entry n).version
       above (targets {g = f} g) n e =
           subst (λ (x : Snapshot). f.version ≡ (targets_entry x).version) (one-held g.on.snapshot_held e) g.version

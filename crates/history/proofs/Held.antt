@@ -4,7 +4,8 @@ use mathlib.Core.Path.{◌≡◌, refl, sym, ap, ◌∙◌, subst, subst₂}
 use mathlib.Core.Logic.{◌↔◌, ◌⊎◌, inl, inr}
 use mathlib.Core.Bool.{Bool, true, false}
 use lib.IntN.{ℤ}
-use mathlib.Core.Option.{Option, none, some}
+use Rattle.std.specs.declared.option.Option.{Option}
+use Rattle.std.specs.declared.option.Option.TheVariants.{None, Some}
 use mathlib.Core.List.{List, [], ◌∷◌, ◌++◌, Memᴰ, nil≢cons, head-eq_of_cons-eq, tail-eq_of_cons-eq}
 use Rattle.base.proofs.TestLaws.{never}
 use Rattle.rules.specs.State.{Root, Timestamp, Snapshot, Targets, State, Install, Call, new_root}
@@ -24,8 +25,8 @@ use Rattle.history.proofs.Left.{left, left-installed}
 -- what a call does to a part of the state: nothing, or it trusts a file for it, or it drops it
 pub data Does {A : Type 0} (part : State → Option A) (item : A → Item) (Ends : Event → Type 0) (s : State) (c : Call) : Type 0 where
   stays : part (next s c) ≡ part s → ¬ Ends (calls s c) → Does part item Ends s c
-  trusts : (a : A) → BecomesTrusted (calls s c) (item a) → part (next s c) ≡ some a → Ends (calls s c) → Does part item Ends s c
-  drops : part (next s c) ≡ none → Ends (calls s c) → Does part item Ends s c
+  trusts : (a : A) → BecomesTrusted (calls s c) (item a) → part (next s c) ≡ Some a → Ends (calls s c) → Does part item Ends s c
+  drops : part (next s c) ≡ None → Ends (calls s c) → Does part item Ends s c
 
 -- a root is told from its item
 one-root : {r r' : Root} → a_root r ≡ a_root r' → r ≡ r'
@@ -48,8 +49,8 @@ earlier e l =
 
 module _ {A : Type 0} (part : State → Option A) (item : A → Item) (Ends : Event → Type 0)
     (does : (s : State) → RootRead s → (c : Call) → Does part item Ends s c)
-    (held : (s : State) → RootRead s → (c : Call) (a : A) → BecomesTrusted (calls s c) (item a) → part (next s c) ≡ some a)
-    (first : (o : Install) → install_answer o ≡ 0 → (a : A) → (part (installed o) ≡ some a) ↔ BecomesTrusted (begins o) (item a)) where
+    (held : (s : State) → RootRead s → (c : Call) (a : A) → BecomesTrusted (calls s c) (item a) → part (next s c) ≡ Some a)
+    (first : (o : Install) → install_answer o ≡ 0 → (a : A) → (part (installed o) ≡ Some a) ↔ BecomesTrusted (begins o) (item a)) where
   stays_at : (s : State) → RootRead s → (c : Call) → ¬ Ends (calls s c) → part (next s c) ≡ part s
   stays_at s read c f = go (does s read c)
     where
@@ -67,7 +68,7 @@ module _ {A : Type 0} (part : State → Option A) (item : A → Item) (Ends : Ev
 
   -- the file trusted last is held
   last-held : (s : State) → RootRead s → (cs : List Call) (a : A) (before : List Event) (e : Event) (after : List Event)
-      → events s cs ≡ before ++ (e ∷ after) → BecomesTrusted e (item a) → NoneEnds Ends after → part (run s cs) ≡ some a
+      → events s cs ≡ before ++ (e ∷ after) → BecomesTrusted e (item a) → NoneEnds Ends after → part (run s cs) ≡ Some a
   unfolding run events
   last-held s read [] a [] e after q k f = absurd (nil≢cons q)
   last-held s read [] a (x ∷ before) e after q k f = absurd (nil≢cons q)
@@ -79,7 +80,7 @@ module _ {A : Type 0} (part : State → Option A) (item : A → Item) (Ends : Ev
 
   -- what is held was trusted last, or was held at first
   abbrev Since : State → List Call → A → Type 0
-  Since s cs a = LastOf (events s cs) (item a) Ends ⊎ ((part s ≡ some a) × NoneEnds Ends (events s cs))
+  Since s cs a = LastOf (events s cs) (item a) Ends ⊎ ((part s ≡ Some a) × NoneEnds Ends (events s cs))
 
   back : (s : State) → RootRead s → (c : Call) (cs : List Call) (a : A) → Since (next s c) cs a → Since s (c ∷ cs) a
   unfolding events
@@ -104,12 +105,12 @@ module _ {A : Type 0} (part : State → Option A) (item : A → Item) (Ends : Ev
           })
       go (drops now _) = none-not-some (sym now ∙ e)
 
-  held-since : (s : State) → RootRead s → (cs : List Call) (a : A) → part (run s cs) ≡ some a → Since s cs a
+  held-since : (s : State) → RootRead s → (cs : List Call) (a : A) → part (run s cs) ≡ Some a → Since s cs a
   unfolding run events
   held-since s read [] a e = inr (e, λ x m. elim m [ ])
   held-since s read (c ∷ cs) a e = back s read c cs a (held-since (next s c) (read_next s read c) cs a e)
 
-  pub held-exactly : (h : History) (a : A) → (part (end h) ≡ some a) ↔ LastOf (happened h) (item a) Ends
+  pub held-exactly : (h : History) (a : A) → (part (end h) ≡ Some a) ↔ LastOf (happened h) (item a) Ends
   unfolding end happened
   held-exactly h a = (λ e. to (held-since s₀ read₀ h.calls a e), λ l. from l l.before l.split)
     where
@@ -132,7 +133,7 @@ module _ {A : Type 0} (part : State → Option A) (item : A → Item) (Ends : Ev
           }
 
       from : (l : LastOf (begins h.install ∷ events s₀ h.calls) (item a) Ends) (before : List Event)
-          → begins h.install ∷ events s₀ h.calls ≡ before ++ (l.at ∷ l.after) → part (run s₀ h.calls) ≡ some a
+          → begins h.install ∷ events s₀ h.calls ≡ before ++ (l.at ∷ l.after) → part (run s₀ h.calls) ≡ Some a
       from l [] q =
           stays-run s₀ read₀ h.calls (subst (λ (es : List Event). NoneEnds Ends es) (sym (tail-eq_of_cons-eq q)) l.since)
           ∙ (first h.install h.accepted a).1
@@ -169,7 +170,7 @@ module _ {A : Type 0} (part : State → Option A) (item : A → Item) (Differs :
     (exactly : (old new : Root) → (test old new ≡ true) ↔ Differs old new)
     (dropped : (s : State) (old new : Root) → part (with_root s old new) ≡ drop_if (test old new) (part s))
     (touches : (s : State) (x : Item) → Touches part item s x)
-    (held : (s : State) → RootRead s → (c : Call) (a : A) → BecomesTrusted (calls s c) (item a) → part (next s c) ≡ some a)
+    (held : (s : State) → RootRead s → (c : Call) (a : A) → BecomesTrusted (calls s c) (item a) → part (next s c) ≡ Some a)
     (idle : (s : State) (c : Call) → SameRecords s (next s c) → part (next s c) ≡ part s) (s : State) (read : RootRead s) where
   -- neither a file of the role nor a root becomes trusted
   alone : {c : Call} → part (next s c) ≡ part s → ((a : A) → ¬ BecomesTrusted (calls s c) (item a))
@@ -237,7 +238,7 @@ targets_touches s (a_targets g) = own g refl
 
 -- ## What an accepted install leaves: its root, and nothing else
 
-first-root : (o : Install) → install_answer o ≡ 0 → (r : Root) → ((installed o).root ≡ some r) ↔ BecomesTrusted (begins o) (a_root r)
+first-root : (o : Install) → install_answer o ≡ 0 → (r : Root) → ((installed o).root ≡ Some r) ↔ BecomesTrusted (begins o) (a_root r)
 unfolding root_alone
 first-root o a r =
     let w = install-good o a in
@@ -252,7 +253,7 @@ install-state o a = let w = install-good o a in (w.0, install-after o w.0 w.1.en
 
 -- ## After a whole history
 
-pub root-held : (h : History) (r : Root) → ((end h).root ≡ some r) ↔ LastOf (happened h) (a_root r) (Another a_root)
+pub root-held : (h : History) (r : Root) → ((end h).root ≡ Some r) ↔ LastOf (happened h) (a_root r) (Another a_root)
 root-held =
     held-exactly (λ s. s.root) a_root (Another a_root) root_does (λ s read c a k. left (trusted-by s read k)) first-root
 
@@ -260,11 +261,11 @@ module _ {A : Type 0} (part : State → Option A) (item : A → Item) (Differs :
     (exactly : (old new : Root) → (test old new ≡ true) ↔ Differs old new)
     (dropped : (s : State) (old new : Root) → part (with_root s old new) ≡ drop_if (test old new) (part s))
     (touches : (s : State) (x : Item) → Touches part item s x)
-    (held : (s : State) → RootRead s → (c : Call) (a : A) → BecomesTrusted (calls s c) (item a) → part (next s c) ≡ some a)
+    (held : (s : State) → RootRead s → (c : Call) (a : A) → BecomesTrusted (calls s c) (item a) → part (next s c) ≡ Some a)
     (idle : (s : State) (c : Call) → SameRecords s (next s c) → part (next s c) ≡ part s)
-    (first : (r : Root) (start : ℤ) → part (root_alone r start) ≡ none)
+    (first : (r : Root) (start : ℤ) → part (root_alone r start) ≡ None)
     (no : (o : Install) (a : A) → ¬ BecomesTrusted (begins o) (item a)) where
-  part_held : (h : History) (a : A) → (part (end h) ≡ some a) ↔ LastOf (happened h) (item a) (AnotherOr item Differs)
+  part_held : (h : History) (a : A) → (part (end h) ≡ Some a) ↔ LastOf (happened h) (item a) (AnotherOr item Differs)
   part_held =
       held-exactly part item (AnotherOr item Differs) (part-does part item Differs test exactly dropped touches held idle) held
       (λ o ok a. (
@@ -272,21 +273,21 @@ module _ {A : Type 0} (part : State → Option A) (item : A → Item) (Differs :
         λ k. absurd (no o a k),
       ))
 
-pub timestamp-held : (h : History) (t : Timestamp) → ((end h).timestamp ≡ some t)
+pub timestamp-held : (h : History) (t : Timestamp) → ((end h).timestamp ≡ Some t)
     ↔ LastOf (happened h) (a_timestamp t) (AnotherOr a_timestamp Rotation)
 unfolding with_root root_alone
 timestamp-held =
     part_held (λ s. s.timestamp) a_timestamp Rotation rotates rotates-exactly (λ s old new. refl) timestamp-touches
     (λ s read c a k. left (trusted-by s read k)) (λ s c e. e.timestamp) (λ r start. refl) (λ o a k. elim k [ ])
 
-pub snapshot-held : (h : History) (n : Snapshot) → ((end h).snapshot ≡ some n)
+pub snapshot-held : (h : History) (n : Snapshot) → ((end h).snapshot ≡ Some n)
     ↔ LastOf (happened h) (a_snapshot n) (AnotherOr a_snapshot Rotation)
 unfolding with_root root_alone
 snapshot-held =
     part_held (λ s. s.snapshot) a_snapshot Rotation rotates rotates-exactly (λ s old new. refl) snapshot_touches
     (λ s read c a k. (left (trusted-by s read k)).held) (λ s c e. e.snapshot) (λ r start. refl) (λ o a k. elim k [ ])
 
-pub targets-held : (h : History) (g : Targets) → ((end h).targets ≡ some g)
+pub targets-held : (h : History) (g : Targets) → ((end h).targets ≡ Some g)
     ↔ LastOf (happened h) (a_targets g) (AnotherOr a_targets AnyRotation)
 unfolding with_root root_alone
 targets-held =

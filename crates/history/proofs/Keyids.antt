@@ -1,6 +1,6 @@
 -- A root that becomes trusted was read, so its keyids are its keys' (A1).
 use mathlib.Core.Path.{◌≡◌, subst}
-use mathlib.Core.Option.{some}
+use Rattle.std.specs.declared.option.Option.TheVariants.{Some}
 use mathlib.Core.List.{List, Memᴰ}
 use Rattle.base.specs.Bytes.{Bytes}
 use Rattle.base.proofs.TestLaws.{never}
@@ -15,16 +15,16 @@ use Rattle.rules.proofs.KeyidLaws.{root-keyids}
 
 module _ {r : Root} where
   -- the root that was offered; a file of another role is none
-  says-root : (file : Bytes) → what_says a_root (root_in file) ≡ some (a_root r) → (es : List Bytes) × (root_in file ≡ says r es)
+  says-root : (file : Bytes) → what_says a_root (root_in file) ≡ Some (a_root r) → (es : List Bytes) × (root_in file ≡ says r es)
   says-root file e =
       let w = what_said a_root (root_in file) (a_root r) e in
       let one : w.0 ≡ r = cc in
       (w.1, subst (λ (x : Root). root_in file ≡ says x w.1) one w.2)
 
-  not_root : {A X : Type 0} (f : A → Item) → ((a : A) → ¬ (f a ≡ a_root r)) → (rd : Read A) → what_says f rd ≡ some (a_root r) → X
+  not_root : {A X : Type 0} (f : A → Item) → ((a : A) → ¬ (f a ≡ a_root r)) → (rd : Read A) → what_says f rd ≡ Some (a_root r) → X
   not_root f other rd e = let w = what_said f rd (a_root r) e in absurd (other w.0 w.3)
 
-  offered-keyids : (c : Call) → offered c ≡ some (a_root r) → (k : Key) → Memᴰ k r.keys → OwnKeyid k
+  offered-keyids : (c : Call) → offered c ≡ Some (a_root r) → (k : Key) → Memᴰ k r.keys → OwnKeyid k
   unfolding offered
   offered-keyids (new_cycle t) e = none-not-some e
   offered-keyids (new_root o) e = let w = says-root o.file e in root-keyids o.file r w.0 w.1

@@ -1,6 +1,6 @@
 -- What a file that becomes trusted leaves in the state.
 use mathlib.Core.Path.{◌≡◌, ap, ◌∙◌}
-use mathlib.Core.Option.{some}
+use Rattle.std.specs.declared.option.Option.TheVariants.{Some}
 use Rattle.rules.specs.State.{Timestamp, Snapshot, Targets, State, keep_targets, Install, Call}
 use Rattle.rules.specs.Conditions.{targets_entry}
 use Rattle.rules.specs.Steps.{next, installed, root_alone, with_root, with_timestamp, with_snapshot, with_targets, Item, a_root, a_timestamp, a_snapshot, a_targets}
@@ -10,21 +10,21 @@ use Rattle.history.proofs.Trusted.{TrustedBy, root, timestamp, snapshot, targets
 
 -- a snapshot, beside the timestamp that lists its version
 pub record LeftSnapshot (s : State) (n : Snapshot) : Type 0 where
-  pub held : s.snapshot ≡ some n
+  pub held : s.snapshot ≡ Some n
   pub timestamp : Timestamp
-  pub timestamp_held : s.timestamp ≡ some timestamp
+  pub timestamp_held : s.timestamp ≡ Some timestamp
   pub version : n.version ≡ timestamp.snapshot.version
 
 -- targets, beside the snapshot that lists their version
 pub record LeftTargets (s : State) (g : Targets) : Type 0 where
-  pub held : s.targets ≡ some g
+  pub held : s.targets ≡ Some g
   pub snapshot : Snapshot
-  pub snapshot_held : s.snapshot ≡ some snapshot
+  pub snapshot_held : s.snapshot ≡ Some snapshot
   pub version : g.version ≡ (targets_entry snapshot).version
 
 abbrev pub Left : State → Item → Type 0
-Left s (a_root r) = s.root ≡ some r
-Left s (a_timestamp t) = s.timestamp ≡ some t
+Left s (a_root r) = s.root ≡ Some r
+Left s (a_timestamp t) = s.timestamp ≡ Some t
 Left s (a_snapshot n) = LeftSnapshot s n
 Left s (a_targets g) = LeftTargets s g
 

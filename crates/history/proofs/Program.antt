@@ -1,6 +1,6 @@
 -- A program whose functions keep their promises: its runs are histories, so the claim holds of them.
 use mathlib.Core.Path.{◌≡◌, refl, sym, ap, ◌∙◌, subst}
-use mathlib.Core.Option.{some}
+use Rattle.std.specs.declared.option.Option.TheVariants.{Some}
 use mathlib.Core.List.{List, [], ◌∷◌, map, Memᴰ}
 use Prim.Native.Nat.{ℕ}
 use Rattle.base.specs.Bytes.{Bytes}
@@ -29,7 +29,7 @@ state-stepped s = record { answered = refl; became = sym (next-same s ask_state 
 
 -- the publisher's half of demand 3, of a state
 abbrev GetsThrough : State → Type 0
-GetsThrough s = (held : Root) × (s.root ≡ some held) × ((plan : Plan) → Honest s held plan → Through s held plan)
+GetsThrough s = (held : Root) × (s.root ≡ Some held) × ((plan : Plan) → Honest s held plan → Through s held plan)
 
 module _ (P : Type 0) (view : P → State) where
   -- ## Runs

@@ -1,7 +1,7 @@
 -- The honest publisher gets through. What comes between leaves the records as they are, so each of the publisher's calls is given what the
 -- one before it left.
 use mathlib.Core.Path.{◌≡◌, refl, ap, ◌∙◌}
-use mathlib.Core.Option.{some}
+use Rattle.std.specs.declared.option.Option.TheVariants.{Some}
 use mathlib.Core.List.{List, [], ◌∷◌}
 use lib.IntN.{ℤ}
 use lib.Signed.{◌≤ℤ◌}
@@ -23,8 +23,8 @@ quiet_same s (c ∷ cs) q = same_trans (idle-same s c q.0) (quiet_same (next s c
 
 -- ## The roots
 
-roots-through : (s : State) (held : Root) (xs : List RootTurn) → s.root ≡ some held → InTurn held xs → QuietRoots s xs
-    → RootsThrough s xs × ((after_roots s xs).root ≡ some (last_root held xs))
+roots-through : (s : State) (held : Root) (xs : List RootTurn) → s.root ≡ Some held → InTurn held xs → QuietRoots s xs
+    → RootsThrough s xs × ((after_roots s xs).root ≡ Some (last_root held xs))
 unfolding after_roots last_root with_root
 roots-through s held [] e turns quiet = (tt, e)
 roots-through s held (x ∷ xs) e turns quiet =
@@ -51,7 +51,7 @@ roots-through s held (x ∷ xs) e turns quiet =
 
 -- ## The whole plan
 
-pub through : (s : State) (held : Root) → s.root ≡ some held → (p : Plan) → Honest s held p → Through s held p
+pub through : (s : State) (held : Root) → s.root ≡ Some held → (p : Plan) → Honest s held p → Through s held p
 unfolding with_timestamp with_snapshot with_targets
 through s held e p h =
     let rs = roots-through s held p.roots e h.roots h.quiet_roots in

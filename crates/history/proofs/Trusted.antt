@@ -2,7 +2,8 @@
 -- was always read from a file.
 use mathlib.Core.Path.{◌≡◌, refl, sym, ap, ◌∙◌, subst}
 use mathlib.Core.Logic.{◌⊎◌, inl, inr}
-use mathlib.Core.Option.{Option, none, some}
+use Rattle.std.specs.declared.option.Option.{Option}
+use Rattle.std.specs.declared.option.Option.TheVariants.{None, Some}
 use mathlib.Core.List.{List}
 use native.Mathlib.Decide.{ℕ_discrete}
 use Rattle.base.specs.Bytes.{Bytes}
@@ -26,7 +27,7 @@ pub data TrustedBy (s : State) : Call → Item → Type 0 where
       → TrustedBy s (new_targets o) (a_targets (keep_targets o.file g))
 
 module _ (s : State) (read : RootRead s) where
-  by_call : (c : Call) (x : Item) → offered c ≡ some x → answer s c ≡ 0 → TrustedBy s c x
+  by_call : (c : Call) (x : Item) → offered c ≡ Some x → answer s c ≡ 0 → TrustedBy s c x
   unfolding offered
   by_call (new_cycle t) x e a = none-not-some e
   by_call (new_root o) x e a =
@@ -108,8 +109,8 @@ pub idle-same : (s : State) (c : Call) → Idle s c → SameRecords s (next s c)
 idle-same s c idle = elim (ℕ_discrete (answer s c) 0) [ yes a ↦ go a (offered c) refl | no f ↦ same-is (next-refused s c f) ]
   where
     go : answer s c ≡ 0 → (o : Option Item) → offered c ≡ o → SameRecords s (next s c)
-    go a none e = same_trans (started-same s c) (same-is (next-none s c e a))
-    go a (some x) e = absurd (idle x (at_call e a))
+    go a None e = same_trans (started-same s c) (same-is (next-none s c e a))
+    go a (Some x) e = absurd (idle x (at_call e a))
 
 -- ## Every call is one or the other
 
@@ -119,19 +120,19 @@ kind s read c = elim (ℕ_discrete (answer s c) 0) [ yes a ↦ go a (offered c) 
     answers : {x : Item} → BecomesTrusted (calls s c) x → answer s c ≡ 0
     answers (at_call e a) = a
 
-    offers : {x : Item} → BecomesTrusted (calls s c) x → offered c ≡ some x
+    offers : {x : Item} → BecomesTrusted (calls s c) x → offered c ≡ Some x
     offers (at_call e a) = e
 
     go : answer s c ≡ 0 → (o : Option Item) → offered c ≡ o → ((x : Item) × TrustedBy s c x) ⊎ Idle s c
-    go a none e = inr (λ x k. none-not-some (sym e ∙ offers k))
-    go a (some x) e = inl (x, trusted-by s read (at_call e a))
+    go a None e = inr (λ x k. none-not-some (sym e ∙ offers k))
+    go a (Some x) e = inl (x, trusted-by s read (at_call e a))
 
 -- ## The held root was read
 
 read_same : (a b : State) → b.root ≡ a.root → RootRead a → RootRead b
 read_same a b e read r h = read r (sym e ∙ h)
 
-read_one : (s : State) (r : Root) (file : Bytes) (es : List Bytes) → s.root ≡ some r → root_in file ≡ says r es → RootRead s
+read_one : (s : State) (r : Root) (file : Bytes) (es : List Bytes) → s.root ≡ Some r → root_in file ≡ says r es → RootRead s
 read_one s r file es e reads r' h =
     (file, es, subst (λ (x : Root). root_in file ≡ says x es) (one-held e h) reads)
 

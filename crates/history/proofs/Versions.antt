@@ -1,6 +1,6 @@
 -- A file that becomes trusted was read, so its versions, and those that it lists, are in the range (A7).
 use mathlib.Core.Path.{◌≡◌, subst}
-use mathlib.Core.Option.{some}
+use Rattle.std.specs.declared.option.Option.TheVariants.{Some}
 use mathlib.Core.List.{List}
 use Rattle.base.specs.Bytes.{Bytes}
 use Rattle.rules.specs.Records.{Read, says}
@@ -14,12 +14,12 @@ use Rattle.rules.proofs.VersionLaws.{root-versions, timestamp-versions, snapshot
 
 -- what holds of every file that can be read holds of the one that was offered
 said-versions : {A : Type 0} (f : A → Item) (rd : Read A) → ((a : A) (es : List Bytes) → rd ≡ says a es → AllVersions (versions_of (f a)))
-    → (x : Item) → what_says f rd ≡ some x → AllVersions (versions_of x)
+    → (x : Item) → what_says f rd ≡ Some x → AllVersions (versions_of x)
 said-versions f rd law x e =
     let w = what_said f rd x e in
     subst (λ (y : Item). AllVersions (versions_of y)) w.3 (law w.0 w.1 w.2)
 
-offered-versions : (c : Call) (x : Item) → offered c ≡ some x → AllVersions (versions_of x)
+offered-versions : (c : Call) (x : Item) → offered c ≡ Some x → AllVersions (versions_of x)
 unfolding offered
 offered-versions (new_cycle t) x e = none-not-some e
 offered-versions (new_root o) x e = said-versions a_root (root_in o.file) (root-versions o.file) x e

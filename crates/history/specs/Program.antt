@@ -3,7 +3,7 @@
 -- proves it of every such program.
 use Rattle.std.specs.Prelude.{◌≡◌, ℕ}
 use Rattle.std.proofs.Common.{sym, ◌∙◌}
-use Rattle.std.proofs.Math.Option.{some}
+use Rattle.std.specs.declared.option.Option.TheVariants.{Some}
 use mathlib.Core.List.{List, [], ◌∷◌, map, Memᴰ}
 use Rattle.rules.specs.State.{Root, State, Install, Call, new_root, new_timestamp, new_snapshot, new_targets}
 use Rattle.rules.specs.Steps.{answer, Began, Stepped}
@@ -102,5 +102,5 @@ module _ (P : Type 0) (view : P → State) where
     pub claim : Demand3 (history_of r)
     -- and the publisher's calls of the program answer 0
     pub publisher : (held : Root)
-        × ((view (last r)).root ≡ some held)
+        × ((view (last r)).root ≡ Some held)
         × ((plan : Plan) → Honest (view (last r)) held plan → (c : Carried (last r) plan) → Accepted (last r) plan c)

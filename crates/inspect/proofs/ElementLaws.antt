@@ -1,6 +1,8 @@
 -- The element at a place of an array, found by walking to it.
 use mathlib.Core.Path.{◌≡◌, refl, ◌∙◌}
-use mathlib.Core.Option.{Option, none, some, bind}
+use Rattle.std.specs.declared.option.Option.{Option}
+use Rattle.std.specs.declared.option.Option.TheVariants.{None, Some}
+use Rattle.canonical_json.specs.Options.{bind}
 use Prim.Native.Nat.{ℕ, suc, ◌-◌}
 use native.Mathlib.Omega.{arith}
 use Rattle.base.specs.Bytes.{Bytes}
@@ -8,8 +10,6 @@ use Rattle.canonical_json.specs.Json.{Json, Items, icons}
 use Rattle.canonical_json.specs.Fields.{items, field}
 use Rattle.lookup.specs.Place.{Stands, PlaceOf, Finds}
 use Rattle.lookup.specs.Walk.{ItemsLeft, items-end, items_at, ItemsOf, FirstElement, NextElement}
-use Rattle.lookup.specs.declared.Found.{Found}
-use Rattle.lookup.specs.declared.Found.TheVariants as found
 use Rattle.lookup.specs.declared.Element.{Element}
 use Rattle.lookup.specs.declared.Element.TheVariants.{NoArray, End, At}
 use Rattle.lookup.proofs.ItemLaws.{item-stands}
@@ -20,11 +20,11 @@ use Rattle.inspect.specs.Elements.{elements, element_at}
 
 -- o is the element at place n of those that are left at e
 abbrev pub NthLeft : Bytes → Element → ℕ → Option Json → Type 0
-NthLeft s NoArray n o = o ≡ none
-NthLeft s (End e) n o = o ≡ none
+NthLeft s NoArray n o = o ≡ None
+NthLeft s (End e) n o = o ≡ None
 NthLeft s (At i) n o = (v : Json) × (vs : Items) × ((rest : Bytes) × ItemsLeft s rest (At i) (icons v vs)) × (o ≡ nth n (elements (icons v vs)))
 
-nth-now : (v : Json) (vs : Items) (n : ℕ) → n ≡ 0 → nth n (elements (icons v vs)) ≡ some v
+nth-now : (v : Json) (vs : Items) (n : ℕ) → n ≡ 0 → nth n (elements (icons v vs)) ≡ Some v
 unfolding nth elements
 nth-now v vs n z = rw z
 
@@ -44,21 +44,21 @@ module _ (s : Bytes) where
   nth-first e w n v h = go (items v) (w.means v h)
     where
       go : (o : Option Items) → ItemsOf s h.rest e o → NthLeft s e n (o >>= λ xs. nth n (elements xs))
-      go none q = rw q refl
-      go (some xs) l = left-nth n l
+      go None q = rw q refl
+      go (Some xs) l = left-nth n l
 
   module _ (e : Element) (n : ℕ) (o : Option Json) (w : NthLeft s e n o) where
-    pub nth-none : e ≡ NoArray → PlaceOf s found.Nothing o
+    pub nth-none : e ≡ NoArray → PlaceOf s None o
     nth-none q = rw q at w
 
-    pub nth_end : (j : ℕ) → e ≡ End j → PlaceOf s found.Nothing o
+    pub nth_end : (j : ℕ) → e ≡ End j → PlaceOf s None o
     nth_end j q = rw q at w
 
     module _ (i : ℕ) (q : e ≡ At i) where
       here : NthLeft s (At i) n o
       here = rw q at w
 
-      pub nth_here : n ≡ 0 → PlaceOf s (found.At i) o
+      pub nth_here : n ≡ 0 → PlaceOf s (Some i) o
       nth_here z = (here.0, here.3 ∙ nth-now here.0 here.1 n z, item-stands here.2.1)
 
       pub nth-next : (n ≡ 0 → ⊥) → (e' : Element) → NextElement s i e' → NthLeft s e' (n - 1) o
@@ -68,9 +68,9 @@ module _ (s : Bytes) where
 
 -- ## In a member of an object
 
-pub member-at : (s : Bytes) (p : ℕ) (k : Bytes) {r : Found} → Finds s p (field k) r → (x : ℕ) → r ≡ found.At x
-    → (f : Json → Option Json) (r' : Found) → Finds s x f r' → Finds s p (must k f) r'
+pub member-at : (s : Bytes) (p : ℕ) (k : Bytes) {r : Option ℕ} → Finds s p (field k) r → (x : ℕ) → r ≡ Some x
+    → (f : Json → Option Json) (r' : Option ℕ) → Finds s x f r' → Finds s p (must k f) r'
 unfolding must
 member-at s p k w x q f r' t v h =
-    let z : PlaceOf s (found.At x) (field k v) = rw q at (w v h) in
+    let z : PlaceOf s (Some x) (field k v) = rw q at (w v h) in
     rw (on f z.1) (t z.0 z.2)

@@ -7,8 +7,8 @@ use lib.ListN.{length, take, drop, length-map}
 use Rattle.base.specs.Bytes.{Bytes}
 use Rattle.base.proofs.WindowLaws.{run_length}
 use Rattle.lookup.specs.Place.{EndsAt}
-use Rattle.lookup.specs.declared.Found.{Found}
-use Rattle.lookup.specs.declared.Found.TheVariants.{Nothing, At}
+use Rattle.std.specs.declared.option.Option.{Option}
+use Rattle.std.specs.declared.option.Option.TheVariants.{None, Some}
 use Rattle.lookup.proofs.StandsLaws.{end-found, end_is}
 use Rattle.lookup.proofs.PlacedLaws.{value-length}
 use Rattle.rules.specs.Limits.{max_entries}
@@ -51,7 +51,7 @@ module _ (file : Bytes) (o : Opened) (w : Opens file o (read_envelope file)) whe
       go (refused f) w = rw (named a w.answer (fault-most f))
       go (says e ks) w = absurd (z w.answer)
 
-  module _ (z : o.answer ≡ 0) (g : Found) (ends : EndsAt file o.start g) where
+  module _ (z : o.answer ≡ 0) (g : Option ℕ) (ends : EndsAt file o.start g) where
     -- what the look gives, by the envelope that was opened
     opens : (P : Look → Type 0) → ((e : Envelope) → IsOpen file o e → P (seen e.start e.length (length e.entries))) → P (look file)
     unfolding look look_of
@@ -61,10 +61,10 @@ module _ (file : Bytes) (o : Opened) (w : Opens file o (read_envelope file)) whe
         go (refused f) w = absurd (fault-refuses f (sym w.answer ∙ z))
         go (says e ks) w = f e w
 
-    pub look-endless : (P : Look → Type 0) → g ≡ Nothing → P (look file)
+    pub look-endless : (P : Look → Type 0) → g ≡ None → P (look file)
     look-endless P q = opens P (λ e x. absurd (end-found file o.start e.signed x.stands ends q))
 
-    pub look_is : (end entries : ℕ) → g ≡ At end → entries ≡ min o.entries.count max_entries
+    pub look_is : (end entries : ℕ) → g ≡ Some end → entries ≡ min o.entries.count max_entries
         → seen o.start (end - o.start) entries ≡ look file
     look_is end entries q n = opens (λ (l : Look). seen o.start (end - o.start) entries ≡ l) go
       where

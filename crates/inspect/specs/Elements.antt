@@ -1,5 +1,5 @@
 -- The elements of an array by their place, counted from 0.
-use Rattle.std.proofs.Math.Option.{Option}
+use Rattle.std.specs.declared.option.Option.{Option}
 use Rattle.std.specs.Prelude.{List, [], ◌∷◌, ℕ}
 use Rattle.canonical_json.specs.Json.{Json, Items, inil, icons}
 use Rattle.canonical_json.specs.Fields.{items}

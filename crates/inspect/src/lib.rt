@@ -49,10 +49,10 @@ pub fn look(file: &[u8]) -> Looked
     let entries = records::at_most(opened.entries.count, records::MAX_ENTRIES);
     match lookup::value_end(file, start) {
         // the signed part stands at its place, so that it ends
-        Found::Nothing => {
+        None => {
             return no_look(Answer::BadForm);
         }
-        Found::At(end) => {
+        Some(end) => {
             return Looked {
                 answer: Answer::Accepted,
                 start,
@@ -96,7 +96,7 @@ fn no_entry(answer: Answer) -> EntryRead
 }
 
 // Where the element at that place of the array at `at` stands.
-fn nth_element(s: &[u8], at: usize, place: usize) -> Found
+fn nth_element(s: &[u8], at: usize, place: usize) -> Option<usize>
     ensures { Finds s.now at (element_at place) result }
 {
     let mut left = place;
@@ -105,30 +105,30 @@ fn nth_element(s: &[u8], at: usize, place: usize) -> Found
         match e {
             Element::At(i) => {
                 if left == 0 {
-                    return Found::At(i);
+                    return Some(i);
                 }
                 left -= 1;
                 e = lookup::next_element(s, i);
             }
             Element::NoArray => {
-                return Found::Nothing;
+                return None;
             }
             Element::End(_) => {
-                return Found::Nothing;
+                return None;
             }
         }
     }
 }
 
 // Where the entry at that place stands: the envelope is the whole file.
-fn find_entry(file: &[u8], place: usize) -> Found
+fn find_entry(file: &[u8], place: usize) -> Option<usize>
     ensures { Finds file.now 0 (must (bytes "signatures") (element_at place)) result }
 {
     match lookup::find_member(file, 0, b"signatures") {
-        Found::Nothing => {
-            return Found::Nothing;
+        None => {
+            return None;
         }
-        Found::At(entries) => {
+        Some(entries) => {
             return nth_element(file, entries, place);
         }
     }
@@ -144,10 +144,10 @@ pub fn entry(file: &[u8], place: usize) -> EntryRead
         return no_entry(refusal);
     }
     match find_entry(file, place) {
-        Found::Nothing => {
+        None => {
             return no_entry(Answer::NotListed);
         }
-        Found::At(at) => {
+        Some(at) => {
             let read = envelope::entry_at(file, at);
             let id = forms::id_in(file, read.keyid);
             let signature = forms::sig_in(file, read.sig);

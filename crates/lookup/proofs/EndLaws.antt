@@ -1,6 +1,7 @@
 -- Where an array or an object ends: a walk over its elements or members comes to its end.
 use mathlib.Core.Path.{◌≡◌, ap}
-use mathlib.Core.Option.{Option, none, some}
+use Rattle.std.specs.declared.option.Option.{Option}
+use Rattle.std.specs.declared.option.Option.TheVariants.{None, Some}
 use Prim.Native.Nat.{ℕ, ◌≤◌, ◌<◌, ◌-◌}
 use native.Mathlib.Omega.{arith}
 use lib.ListN.{length, drop, length-drop}
@@ -9,7 +10,6 @@ use Rattle.canonical_json.specs.Json.{Json, Items, icons, Members, mcons}
 use Rattle.canonical_json.specs.Fields.{items, members}
 use Rattle.lookup.specs.Place.{Stands, EndsAt}
 use Rattle.lookup.specs.Walk.{ItemsLeft, items-end, items_at, ItemsOf, ElementAfter, FirstElement, NextElement, MembersLeft, members-end, members-at, MembersOf, MemberAfter, FirstMember, NextMember}
-use Rattle.lookup.specs.declared.Found.TheVariants as found
 use Rattle.lookup.specs.declared.Element.{Element}
 use Rattle.lookup.specs.declared.Element.TheVariants as element
 use Rattle.lookup.specs.declared.Member.{Member}
@@ -18,13 +18,13 @@ use Rattle.lookup.proofs.ItemLaws.{element-after}
 use Rattle.lookup.proofs.MemberLaws.{member-after, after-later}
 
 -- a place before which the value at p ends
-ends-before : (s : Bytes) (p e : ℕ) → (p < e) × (e ≤ length s) → ((v : Json) (h : Stands s p v) → drop e s ≡ h.rest) → EndsAt s p (found.At e)
+ends-before : (s : Bytes) (p e : ℕ) → (p < e) × (e ≤ length s) → ((v : Json) (h : Stands s p v) → drop e s ≡ h.rest) → EndsAt s p (Some e)
 ends-before s p e a t =
     record {
       means = λ v h.
           let l = ap length (t v h) in
           let k : e ≡ length s - length h.rest = omega (arith, length-drop e s, a.1) in
-          ap found.At k;
+          ap Some k;
       onward = a;
     }
 
@@ -50,8 +50,8 @@ module _ (s : Bytes) (p : ℕ) (m : Element) where
   items-first w = record { left = λ v h. go h.rest (items v) (w.means v h); after = w.onward }
     where
       go : (rest : Bytes) (o : Option Items) → ItemsOf s rest m o → LeftItems s rest m
-      go rest none q = rw q tt
-      go rest (some vs) l = left-items l
+      go rest None q = rw q tt
+      go rest (Some vs) l = left-items l
 
   module _ (w : WalksItems s p m) where
     pub items-next : (i : ℕ) → m ≡ element.At i → (x : Element) → NextElement s i x → WalksItems s p x
@@ -67,7 +67,7 @@ module _ (s : Bytes) (p : ℕ) (m : Element) where
         later h (element.End e) a = let z = a.0 in (omega arith, a.1)
         later h (element.At j) a = let z = a.0 in (omega arith, a.1)
 
-    pub items-over : (e : ℕ) → m ≡ element.End e → EndsAt s p (found.At e)
+    pub items-over : (e : ℕ) → m ≡ element.End e → EndsAt s p (Some e)
     items-over e q = ends-before s p e (rw q at w.after) (λ v h. rw q at (w.left v h))
 
 -- ## Members
@@ -91,8 +91,8 @@ module _ (s : Bytes) (p : ℕ) (m : Member) where
   walks_first w = record { left = λ v h. go h.rest (members v) (w.means v h); after = w.onward }
     where
       go : (rest : Bytes) (o : Option Members) → MembersOf s rest m o → LeftMembers s rest m
-      go rest none q = rw q tt
-      go rest (some ms) l = left-members l
+      go rest None q = rw q tt
+      go rest (Some ms) l = left-members l
 
   module _ (w : Walks s p m) where
     pub walks_next : (i j : ℕ) → m ≡ member.At i j → (x : Member) → NextMember s j x → Walks s p x
@@ -103,5 +103,5 @@ module _ (s : Bytes) (p : ℕ) (m : Member) where
         go : (rest : Bytes) → LeftMembers s rest (member.At i j) → LeftMembers s rest x
         go rest l = left-members (n.means i l.0 l.1 l.2 l.3)
 
-    pub walks_end : (e : ℕ) → m ≡ member.End e → EndsAt s p (found.At e)
+    pub walks_end : (e : ℕ) → m ≡ member.End e → EndsAt s p (Some e)
     walks_end e q = ends-before s p e (rw q at w.after) (λ v h. rw q at (w.left v h))

@@ -15,8 +15,8 @@ use Rattle.canonical_json.specs.Fields.{items}
 use Rattle.canonical_json.proofs.Puts.{put-arr, items-nil, items-cons, more-items-nil, more-items-cons}
 use Rattle.lookup.specs.Place.{Stands, EndsAt, KnownEnd}
 use Rattle.lookup.specs.Walk.{closes, opens, Opens, ItemsLeft, items-end, items_at, ItemsOf, ElementAfter, Follows, NextElement}
-use Rattle.lookup.specs.declared.Found.{Found}
-use Rattle.lookup.specs.declared.Found.TheVariants as found
+use Rattle.std.specs.declared.option.Option.{Option}
+use Rattle.std.specs.declared.option.Option.TheVariants.{Some}
 use Rattle.lookup.specs.declared.Element.{Element}
 use Rattle.lookup.specs.declared.Element.TheVariants.{NoArray, End, At}
 use Rattle.canonical_json.proofs.Deeper.{deeper}
@@ -72,7 +72,7 @@ opens-no s p v h start close n e =
     ap (λ (t : Bytes). opens start close p t) b.is ∙ opens_not start close p b.first b.others (b.with start n ∙ e)
 
 -- what follows a value, by where it ends
-pub follows_by : (s : Bytes) (p close : ℕ) {f : Found} → EndsAt s p f → (e : ℕ) → f ≡ found.At e → (r : Element) → r ≡ closes close (e + 1) (e + 1) (drop e s)
+pub follows_by : (s : Bytes) (p close : ℕ) {f : Option ℕ} → EndsAt s p f → (e : ℕ) → f ≡ Some e → (r : Element) → r ≡ closes close (e + 1) (e + 1) (drop e s)
     → (v : Json) (h : Stands s p v) → r ≡ closes close (length s - length h.rest + 1) (length s - length h.rest + 1) h.rest
 follows_by s p close w e q r k v h =
     k ∙ ap (λ (n : ℕ). closes close (n + 1) (n + 1) (drop n s)) (end_is s p v h w e q)
@@ -100,7 +100,7 @@ opens-place s p start close o i q = go (drop p s) (sym o.is ∙ q)
     go [] e = let z : ◌≡◌ {A = ℕ} 0 1 = cc in absurd (omega arith)
     go (b ∷ t) e = at b t (eqb b start) e
 
-pub follows_place : (s : Bytes) (j close : ℕ) {f : Found} (r : Element) → Follows s j close f r → KnownEnd s j f
+pub follows_place : (s : Bytes) (j close : ℕ) {f : Option ℕ} (r : Element) → Follows s j close f r → KnownEnd s j f
     → (i : ℕ) → r ≡ At i → (v : Json) (h : Stands s j v) → i ≡ length s - length h.rest + 1
 follows_place s j close r w k i q v h = closes-place close _ (length s - length h.rest + 1) h.rest i (sym (w.means k v h) ∙ q)
 
@@ -162,7 +162,7 @@ module _ (s : Bytes) (p : ℕ) where
       let k : r ≡ At (p + 1) = o.is ∙ ap (λ (x : Bytes). opens 91 93 p x) e ∙ opens-on 91 93 p _ ∙ ap (λ (x : Bytes). closes 93 (p + 1 + 1) (p + 1) x) b.is ∙ closes-on 93 _ (p + 1) _ _ (b.with 93 refl ∙ not-closing u) in
       rw k (items_at (there s p 91 _ e).2 g)
 
-  pub next-items : {f : Found} {r : Element} → Follows s p 93 f r → KnownEnd s p f
+  pub next-items : {f : Option ℕ} {r : Element} → Follows s p 93 f r → KnownEnd s p f
       → {rest : Bytes} (v : Json) (vs : Items) → ItemsLeft s rest (At p) (icons v vs) → ItemsLeft s rest r vs
   unfolding Valid item-before
   next-items {r = r} w known {rest} v vs l = go vs l
@@ -181,5 +181,5 @@ module _ (s : Bytes) (p : ℕ) where
           let k : r ≡ At (e + 1) = w.means known v h ∙ ap (λ (x : Bytes). closes 93 (e + 1) (e + 1) x) m ∙ closes-on 93 _ (e + 1) 44 _ refl in
           rw k (items_at (there s e 44 _ (rest_at s p v h ∙ m)).2 g.1)
 
-pub next_of : (s : Bytes) (i : ℕ) (f : Found) (r : Element) → Follows s i 93 f r → KnownEnd s i f → NextElement s i r
+pub next_of : (s : Bytes) (i : ℕ) (f : Option ℕ) (r : Element) → Follows s i 93 f r → KnownEnd s i f → NextElement s i r
 next_of s i f r w k = record { means = next-items s i w k; onward = w.onward; place = λ v h j q. follows_place s i 93 r w k j q v h }

@@ -1,6 +1,8 @@
 -- The search for a member by name, one member after the other.
 use mathlib.Core.Path.{◌≡◌, refl, sym, ap, ◌∙◌}
-use mathlib.Core.Option.{Option, none, some, bind}
+use Rattle.std.specs.declared.option.Option.{Option}
+use Rattle.std.specs.declared.option.Option.TheVariants.{None, Some}
+use Rattle.canonical_json.specs.Options.{bind}
 use mathlib.Core.Bool.{true, false, cond}
 use Prim.Native.Nat.{ℕ}
 use lib.ListN.{drop}
@@ -10,15 +12,14 @@ use Rattle.canonical_json.specs.Read.{raw}
 use Rattle.canonical_json.specs.Fields.{members, lookup, field}
 use Rattle.lookup.specs.Place.{Stands, PlaceOf}
 use Rattle.lookup.specs.Walk.{MembersLeft, members-end, members-at, MembersOf, FirstMember, NextMember}
-use Rattle.lookup.specs.declared.Found.TheVariants as found
 use Rattle.lookup.specs.declared.Member.{Member}
 use Rattle.lookup.specs.declared.Member.TheVariants.{NoObject, End, At}
 use Rattle.lookup.proofs.MemberLaws.{member-stands, member-name}
 
 -- o is what the members that are left at m hold under the name k
 abbrev pub Sought : Bytes → Bytes → Member → Option Json → Type 0
-Sought s k NoObject o = o ≡ none
-Sought s k (End e) o = o ≡ none
+Sought s k NoObject o = o ≡ None
+Sought s k (End e) o = o ≡ None
 Sought s k (At i j) o =
     (rest : Bytes) × (n : Bytes) × (v : Json) × (ms : Members) × MembersLeft s rest (At i j) (mcons n v ms) × (o ≡ lookup k (mcons n v ms))
 
@@ -33,25 +34,25 @@ module _ (s k : Bytes) where
   sought_first {p} {m} w v h = go (members v) (w.means v h)
     where
       go : (o : Option Members) → MembersOf s h.rest m o → Sought s k m (bind o (lookup k))
-      go none e = rw e refl
-      go (some ms) l = left_sought l
+      go None e = rw e refl
+      go (Some ms) l = left_sought l
 
   module _ (m : Member) (o : Option Json) (w : Sought s k m o) where
-    pub sought_none : m ≡ NoObject → o ≡ none
+    pub sought_none : m ≡ NoObject → o ≡ None
     sought_none q = rw q at w
 
-    pub sought_end : (e : ℕ) → m ≡ End e → o ≡ none
+    pub sought_end : (e : ℕ) → m ≡ End e → o ≡ None
     sought_end e q = rw q at w
 
     module _ (i j : ℕ) (q : m ≡ At i j) where
       here : Sought s k (At i j) o
       here = rw q at w
 
-      lookup-is : o ≡ cond (same (raw (drop i s)) k) (some here.2) (lookup k here.3)
+      lookup-is : o ≡ cond (same (raw (drop i s)) k) (Some here.2) (lookup k here.3)
       unfolding lookup
-      lookup-is = here.5 ∙ ap (λ (n : Bytes). cond (same n k) (some here.2) (lookup k here.3)) (sym (member-name here.4))
+      lookup-is = here.5 ∙ ap (λ (n : Bytes). cond (same n k) (Some here.2) (lookup k here.3)) (sym (member-name here.4))
 
-      pub sought_here : true ≡ same (raw (drop i s)) k → PlaceOf s (found.At j) o
+      pub sought_here : true ≡ same (raw (drop i s)) k → PlaceOf s (Some j) o
       sought_here e = (here.2, lookup-is ∙ rw (sym e) refl, member-stands here.4)
 
       pub sought_next : false ≡ same (raw (drop i s)) k → {x : Member} → NextMember s j x → Sought s k x o

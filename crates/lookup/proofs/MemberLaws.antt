@@ -1,7 +1,8 @@
 -- The members of an object one after the other.
 use mathlib.Core.Path.{◌≡◌, refl, sym, ap, ◌∙◌}
 use mathlib.Core.List.{◌∷◌}
-use mathlib.Core.Option.{Option, none, some}
+use Rattle.std.specs.declared.option.Option.{Option}
+use Rattle.std.specs.declared.option.Option.TheVariants.{None, Some}
 use mathlib.Core.Bool.{true, false}
 use Prim.Native.Nat.{ℕ, suc, ◌≤◌, ◌<◌, ◌+◌, ◌-◌}
 use native.Mathlib.Omega.{arith}
@@ -12,8 +13,6 @@ use Rattle.canonical_json.specs.Read.{raw, NoDigit}
 use Rattle.canonical_json.specs.Fields.{members}
 use Rattle.canonical_json.proofs.Puts.{put-str, put-obj, members-nil, members-cons, more-members-nil, more-members-cons}
 use Rattle.lookup.specs.Place.{Stands, EndsAt, KnownEnd}
-use Rattle.lookup.specs.declared.Found.{Found}
-use Rattle.lookup.specs.declared.Found.TheVariants.{Nothing, At}
 use Rattle.lookup.specs.Walk.{closes, opens, Opens, Follows, MemberAt, MemberAfter, NameAt, MembersLeft, members-end, members-at, MembersOf}
 use Rattle.lookup.specs.declared.Element.{Element}
 use Rattle.lookup.specs.declared.Element.TheVariants as element
@@ -39,11 +38,11 @@ module _ (s : Bytes) (i : ℕ) (n : Bytes) (v : Json) (ms : Members) (rest : Byt
   unfolding Valid
   name-stands = record { rest = 58 ∷ put v (put_more_members ms (125 ∷ rest)); text = t ∙ sym (put-str n _); free = refl; valid = g.0 }
 
-  module _ (r : Found) (w : EndsAt s i r) where
-    pub name-found : r ≡ Nothing → ⊥
+  module _ (r : Option ℕ) (w : EndsAt s i r) where
+    pub name-found : r ≡ None → ⊥
     name-found q = end-found s i (str n) name-stands w q
 
-    module _ (e : ℕ) (q : r ≡ At e) where
+    module _ (e : ℕ) (q : r ≡ Some e) where
       colon : (e < length s) × (get_or s e 0 ≡ 58) × (drop (e + 1) s ≡ put v (put_more_members ms (125 ∷ rest)))
       unfolding name-stands
       colon = there s e 58 _ (ap (λ (m : ℕ). drop m s) (end_is s i (str n) name-stands w e q) ∙ rest_at s i (str n) name-stands)
@@ -54,7 +53,7 @@ module _ (s : Bytes) (i : ℕ) (n : Bytes) (v : Json) (ms : Members) (rest : Byt
       pub member-there : MembersLeft s rest (member.At (i + 1) (e + 1)) (mcons n v ms)
       member-there = members-at ((there s i 34 _ t).2 ∙ ap (λ (x : Bytes). put_bytes n (34 ∷ 58 ∷ x)) (sym colon.2)) colon.2 g
 
-pub name-after : (s : Bytes) (i : ℕ) (r : Found) → EndsAt s i r → (e : ℕ) → r ≡ At e → e < length s → MemberAfter s i (member.At (i + 1) (e + 1))
+pub name-after : (s : Bytes) (i : ℕ) (r : Option ℕ) → EndsAt s i r → (e : ℕ) → r ≡ Some e → e < length s → MemberAfter s i (member.At (i + 1) (e + 1))
 name-after s i r w e q h = let k = place_after s i r w.onward e q in (omega arith, omega (arith, k.0), omega arith)
 
 -- a member that was found
@@ -105,10 +104,10 @@ module _ {s rest : Bytes} {i j : ℕ} {n : Bytes} {v : Json} {ms : Members} wher
 
 -- what stands past a bracket or a comma
 data MembersOpen (s rest : Bytes) : Element → Option Members → Type 0 where
-  open_none : MembersOpen s rest element.NoArray none
-  open_end : {e : ℕ} → drop e s ≡ rest → MembersOpen s rest (element.End e) (some mnil)
+  open_none : MembersOpen s rest element.NoArray None
+  open_end : {e : ℕ} → drop e s ≡ rest → MembersOpen s rest (element.End e) (Some mnil)
   open_at : {i : ℕ} {n : Bytes} {v : Json} {ms : Members} → drop i s ≡ MemberText n v ms rest → ValidMembers (mcons n v ms) max_depth
-      → MembersOpen s rest (element.At i) (some (mcons n v ms))
+      → MembersOpen s rest (element.At i) (Some (mcons n v ms))
 
 -- what the program makes of it
 pub data MemberBy (s : Bytes) : Element → Member → Type 0 where
@@ -141,12 +140,12 @@ module _ (s : Bytes) (p : ℕ) where
       let k : e ≡ element.At (p + 1) = o.is ∙ ap (λ (x : Bytes). opens 123 125 p x) q ∙ opens-on 123 125 p _ ∙ closes-on 125 _ (p + 1) 34 _ refl in
       rw k (open_at (there s p 123 _ q).2 g)
 
-  next-members : {f : Found} {r : Element} → Follows s p 125 f r → KnownEnd s p f
-      → {rest : Bytes} (i : ℕ) (n : Bytes) (v : Json) (ms : Members) → MembersLeft s rest (member.At i p) (mcons n v ms) → MembersOpen s rest r (some ms)
+  next-members : {f : Option ℕ} {r : Element} → Follows s p 125 f r → KnownEnd s p f
+      → {rest : Bytes} (i : ℕ) (n : Bytes) (v : Json) (ms : Members) → MembersLeft s rest (member.At i p) (mcons n v ms) → MembersOpen s rest r (Some ms)
   unfolding Valid member-before
   next-members {r = r} w known {rest} i n v ms l = go ms l
     where
-      go : (us : Members) → MembersLeft s rest (member.At i p) (mcons n v us) → MembersOpen s rest r (some us)
+      go : (us : Members) → MembersLeft s rest (member.At i p) (mcons n v us) → MembersOpen s rest r (Some us)
       go mnil (members-at t u g) =
           let h = member-before s p n v mnil rest u g in
           let e = length s - length h.rest in
@@ -163,6 +162,6 @@ module _ (s : Bytes) (p : ℕ) where
   pub first_by : {e : Element} {r : Member} → Opens s p 123 125 e → MemberBy s e r → (v : Json) (h : Stands s p v) → MembersOf s h.rest r (members v)
   first_by o b v h = members-by (first-members o v h) b
 
-  pub next-by : {f : Found} {e : Element} {r : Member} → Follows s p 125 f e → MemberBy s e r → KnownEnd s p f
+  pub next-by : {f : Option ℕ} {e : Element} {r : Member} → Follows s p 125 f e → MemberBy s e r → KnownEnd s p f
       → {rest : Bytes} (i : ℕ) (n : Bytes) (v : Json) (ms : Members) → MembersLeft s rest (member.At i p) (mcons n v ms) → MembersLeft s rest r ms
   next-by w b known i n v ms l = members-by (next-members w known i n v ms l) b

@@ -1,7 +1,9 @@
 -- The number that digits in front of a text write, and limits on it.
 use mathlib.Core.Path.{◌≡◌, refl, sym, ap, ◌∙◌}
 use mathlib.Core.List.{[], ◌∷◌, ◌++◌}
-use mathlib.Core.Option.{Option, none, some, bind}
+use Rattle.std.specs.declared.option.Option.{Option}
+use Rattle.std.specs.declared.option.Option.TheVariants.{None, Some}
+use Rattle.canonical_json.specs.Options.{bind}
 use mathlib.Core.Bool.{Bool, true, false, cond, ◌&&◌, and-false}
 use Prim.Native.Nat.{ℕ, ◌≤◌, ◌<◌, ◌+◌, ◌-◌, ◌*◌}
 use native.Mathlib.Omega.{arith}
@@ -47,40 +49,40 @@ leading_grows (b ∷ t) n = go (is_digit b) (leading_grows t (n * 10 + (b - 48))
 
 -- ## Limits
 
-kept : {A : Type 0} (b : Bool) (x : A) → b ≡ true → keep b x ≡ some x
+kept : {A : Type 0} (b : Bool) (x : A) → b ≡ true → keep b x ≡ Some x
 unfolding keep
 kept b x e = rw e
 
-dropped : {A : Type 0} (b : Bool) (x : A) → b ≡ false → keep b x ≡ none
+dropped : {A : Type 0} (b : Bool) (x : A) → b ≡ false → keep b x ≡ None
 unfolding keep
 dropped b x e = rw e
 
-kept_back : {A : Type 0} (b : Bool) (x n : A) → some n ≡ keep b x → (b ≡ true) × (n ≡ x)
+kept_back : {A : Type 0} (b : Bool) (x n : A) → Some n ≡ keep b x → (b ≡ true) × (n ≡ x)
 unfolding keep
 kept_back true x n e = (refl, cc)
 kept_back false x n e = let z : ◌≡◌ {A = ℕ} 0 1 = cc in absurd (omega arith)
 
-dropped-back : {A : Type 0} (b : Bool) (x : A) → none ≡ keep b x → b ≡ false
+dropped-back : {A : Type 0} (b : Bool) (x : A) → None ≡ keep b x → b ≡ false
 unfolding keep
 dropped-back true x e = let z : ◌≡◌ {A = ℕ} 0 1 = cc in absurd (omega arith)
 dropped-back false x e = refl
 
 module _ (hi : ℕ) (t : Bytes) where
-  pub leading-is : (n : ℕ) → leading 0 t ≡ n → n ≤ hi → some n ≡ leading_to hi t
+  pub leading-is : (n : ℕ) → leading 0 t ≡ n → n ≤ hi → Some n ≡ leading_to hi t
   unfolding leading_to
-  leading-is n e h = ap some (sym e) ∙ sym (kept _ (leading 0 t) (le-leb (leading 0 t) hi (omega arith)))
+  leading-is n e h = ap Some (sym e) ∙ sym (kept _ (leading 0 t) (le-leb (leading 0 t) hi (omega arith)))
 
-  pub leading-over : hi < leading 0 t → none ≡ leading_to hi t
+  pub leading-over : hi < leading 0 t → None ≡ leading_to hi t
   unfolding leading_to
   leading-over h = sym (dropped _ (leading 0 t) (lt-leb (leading 0 t) hi h))
 
 module _ (lo hi : ℕ) (s : Bytes) (p : ℕ) where
-  pub number_cut : length s ≤ p → none ≡ number_in lo hi (drop p s)
+  pub number_cut : length s ≤ p → None ≡ number_in lo hi (drop p s)
   unfolding number_in
   number_cut h = rw (at-end s p h)
 
   module _ (h : p < length s) where
-    pub number-not : is_digit (get_or s p 0) ≡ false → none ≡ number_in lo hi (drop p s)
+    pub number-not : is_digit (get_or s p 0) ≡ false → None ≡ number_in lo hi (drop p s)
     unfolding number_in
     number-not f = rw (at-cons s p h) (simp f)
 
@@ -92,13 +94,13 @@ module _ (lo hi : ℕ) (s : Bytes) (p : ℕ) where
       unfolding number_in between x
       number_is = rw (at-cons s p h) (simp f)
 
-      pub number-over : none ≡ leading_to hi (drop p s) → none ≡ number_in lo hi (drop p s)
+      pub number-over : None ≡ leading_to hi (drop p s) → None ≡ number_in lo hi (drop p s)
       unfolding leading_to x
       number-over e =
           let k : leb x hi ≡ false = dropped-back (leb x hi) x e in
           sym (number_is ∙ dropped _ x (rw (k, and-false) refl))
 
-      pub number-low : (n : ℕ) → some n ≡ leading_to hi (drop p s) → n < lo → none ≡ number_in lo hi (drop p s)
+      pub number-low : (n : ℕ) → Some n ≡ leading_to hi (drop p s) → n < lo → None ≡ number_in lo hi (drop p s)
       unfolding leading_to x
       number-low n e l =
           let w = kept_back (leb x hi) x n e in
@@ -106,13 +108,13 @@ module _ (lo hi : ℕ) (s : Bytes) (p : ℕ) where
           let k : leb lo x ≡ false = lt-leb lo x (omega arith) in
           sym (number_is ∙ dropped _ x (rw k refl))
 
-      pub number-within : (n : ℕ) → some n ≡ leading_to hi (drop p s) → lo ≤ n → some n ≡ number_in lo hi (drop p s)
+      pub number-within : (n : ℕ) → Some n ≡ leading_to hi (drop p s) → lo ≤ n → Some n ≡ number_in lo hi (drop p s)
       unfolding leading_to x
       number-within n e l =
           let w = kept_back (leb x hi) x n e in
           let m : n ≡ x = w.1 in
           let k : leb lo x ≡ true = le-leb lo x (omega arith) in
-          ap some m ∙ sym (number_is ∙ kept _ x (rw k w.0))
+          ap Some m ∙ sym (number_is ∙ kept _ x (rw k w.0))
 
 -- ## The number of a value
 
@@ -128,7 +130,7 @@ leading-digits (b ∷ ds) r n g f =
     let e = both (is_digit b) (all_digits ds) g in
     simp e.0 (leading-digits ds r (n * 10 + (b - 48)) e.1 f)
 
-number-first : (lo hi : ℕ) (s : Bytes) (p : ℕ) (v : Json) → Stands s p v → number_in lo hi (drop p s) ≡ cond (is_natural v) (between lo hi (leading 0 (drop p s))) none
+number-first : (lo hi : ℕ) (s : Bytes) (p : ℕ) (v : Json) → Stands s p v → number_in lo hi (drop p s) ≡ cond (is_natural v) (between lo hi (leading 0 (drop p s))) None
 unfolding number_in
 number-first lo hi s p v h = let b = front s p v h in rw b.is (simp b.digit)
 
@@ -136,7 +138,7 @@ pub number_of : (lo hi : ℕ) (s : Bytes) (p : ℕ) (v : Json) → Stands s p v 
 unfolding number natural bind Valid
 number_of lo hi s p v h = number-first lo hi s p v h ∙ go v h
   where
-    go : (v : Json) → Stands s p v → cond (is_natural v) (between lo hi (leading 0 (drop p s))) none ≡ number lo hi v
+    go : (v : Json) → Stands s p v → cond (is_natural v) (between lo hi (leading 0 (drop p s))) None ≡ number lo hi v
     go jnull h = refl
     go jtrue h = refl
     go jfalse h = refl

@@ -1,7 +1,9 @@
 -- The search for a member by name, with the exact place of its value.
 use mathlib.Core.Path.{◌≡◌, refl, sym, ap, ◌∙◌}
 use mathlib.Core.List.{[], ◌∷◌, ◌++◌}
-use mathlib.Core.Option.{Option, none, some, bind}
+use Rattle.std.specs.declared.option.Option.{Option}
+use Rattle.std.specs.declared.option.Option.TheVariants.{None, Some}
+use Rattle.canonical_json.specs.Options.{bind}
 use mathlib.Core.Bool.{true, false, cond}
 use Prim.Native.Nat.{ℕ, suc, ◌+◌, ◌-◌}
 use native.Mathlib.Omega.{arith}
@@ -47,8 +49,8 @@ value-place s p i j {rest} n v ms l e = go l
 
 -- o is the place that the members left at m have for the value of k
 abbrev pub Placed : Bytes → Bytes → Member → Option ℕ → Type 0
-Placed s k NoObject o = o ≡ none
-Placed s k (End e) o = o ≡ none
+Placed s k NoObject o = o ≡ None
+Placed s k (End e) o = o ≡ None
 Placed s k (At i j) o =
     (p : ℕ) × (n : Bytes) × (v : Json) × (ms : Members) × ((rest : Bytes) × MembersLeft s rest (At i j) (mcons n v ms)) × (i ≡ p + 1) × (o ≡ place_from p k (mcons n v ms))
 
@@ -63,14 +65,14 @@ module _ (s k : Bytes) where
   placed_first p m w v h = go (members v) (w.means v h)
     where
       go : (o : Option Members) → MembersOf s h.rest m o → Placed s k m (bind o (place_from (p + 1) k))
-      go none e = rw e refl
-      go (some ms) l = left-placed (p + 1) l w.place
+      go None e = rw e refl
+      go (Some ms) l = left-placed (p + 1) l w.place
 
   module _ (m : Member) (o : Option ℕ) (w : Placed s k m o) where
-    pub placed-none : m ≡ NoObject → none ≡ o
+    pub placed-none : m ≡ NoObject → None ≡ o
     placed-none q = sym (rw q at w)
 
-    pub placed_end : (e : ℕ) → m ≡ End e → none ≡ o
+    pub placed_end : (e : ℕ) → m ≡ End e → None ≡ o
     placed_end e q = sym (rw q at w)
 
     module _ (i j : ℕ) (q : m ≡ At i j) where
@@ -83,12 +85,12 @@ module _ (s k : Bytes) where
       ends : ℕ
       ends = here.0 + length (put_str here.1 []) + 1 + length (put here.2 []) + 1
 
-      place_is : o ≡ cond (same (raw (drop i s)) k) (some (here.0 + length (put_str here.1 []) + 1)) (place_from ends k here.3)
+      place_is : o ≡ cond (same (raw (drop i s)) k) (Some (here.0 + length (put_str here.1 []) + 1)) (place_from ends k here.3)
       unfolding place_from ends
-      place_is = here.6 ∙ ap (λ (n : Bytes). cond (same n k) (some (here.0 + length (put_str here.1 []) + 1)) (place_from ends k here.3)) (sym (member-name here.4.1))
+      place_is = here.6 ∙ ap (λ (n : Bytes). cond (same n k) (Some (here.0 + length (put_str here.1 []) + 1)) (place_from ends k here.3)) (sym (member-name here.4.1))
 
-      pub placed-here : true ≡ same (raw (drop i s)) k → some j ≡ o
-      placed-here e = sym (place_is ∙ rw (sym e) (ap some (sym begins)))
+      pub placed-here : true ≡ same (raw (drop i s)) k → Some j ≡ o
+      placed-here e = sym (place_is ∙ rw (sym e) (ap Some (sym begins)))
 
       pub placed-next : false ≡ same (raw (drop i s)) k → (x : Member) → NextMember s j x → Placed s k x o
       unfolding ends

@@ -1,7 +1,7 @@
 -- A value that stands at a place: it lies in the text, and where it ends.
 use mathlib.Core.Path.{◌≡◌, refl, sym, ap, ◌∙◌}
 use mathlib.Core.List.{[], ◌∷◌, ◌++◌}
-use mathlib.Core.Option.{Option}
+use Rattle.std.specs.declared.option.Option.{Option}
 use mathlib.Core.Bool.{Bool, true, false}
 use Prim.Native.Nat.{ℕ, ◌≤◌, ◌<◌, ◌+◌, ◌-◌}
 use native.Mathlib.Omega.{arith}
@@ -12,15 +12,12 @@ use borrow.Author.Tests.{leb-true, leb-false}
 use Rattle.base.specs.Bytes.{Bytes}
 use Rattle.base.proofs.PlaceLaws.{at-cons, at-end}
 use Rattle.canonical_json.specs.Json.{Json, put, Canonical, max_depth}
-use Rattle.canonical_json.specs.declared.Skip.{Skip}
-use Rattle.canonical_json.specs.declared.Skip.TheVariants.{No, End}
+use Rattle.std.specs.declared.option.Option.TheVariants.{None, Some}
 use Rattle.canonical_json.specs.Read.{got, read}
 use Rattle.canonical_json.proofs.Slices.{put-split}
 use Rattle.canonical_json.proofs.Complete.{complete}
 use Rattle.skip.specs.Ends.{Ends, EndAfter}
 use Rattle.lookup.specs.Place.{Stands, Takes, PlaceAfter, EndsAt, KnownEnd, FoundEnd, EndsBy}
-use Rattle.lookup.specs.declared.Found.{Found}
-use Rattle.lookup.specs.declared.Found.TheVariants.{Nothing, At}
 use Rattle.lookup.proofs.FirstByte.{Begins, begins}
 
 -- where a text goes on with a byte, it does
@@ -37,10 +34,10 @@ there s i x t e = go (leb (length s) i) refl
         (h, cc, cc)
 
 -- a place that was found
-pub place_after : (s : Bytes) (p : ℕ) (r : Found) → PlaceAfter s p r → (x : ℕ) → r ≡ At x → (p < x) × (x ≤ length s)
+pub place_after : (s : Bytes) (p : ℕ) (r : Option ℕ) → PlaceAfter s p r → (x : ℕ) → r ≡ Some x → (p < x) × (x ≤ length s)
 place_after s p r a x q = rw q at a
 
-pub end_after : (s : Bytes) (p : ℕ) (r : Skip) → EndAfter s p r → (e : ℕ) → r ≡ End e → (p < e) × (e ≤ length s)
+pub end_after : (s : Bytes) (p : ℕ) (r : Option ℕ) → EndAfter s p r → (e : ℕ) → r ≡ Some e → (p < e) × (e ≤ length s)
 end_after s p r a e q = rw q at a
 
 -- the value of a canonical text stands at its beginning, and nothing follows
@@ -78,59 +75,59 @@ module _ (s : Bytes) (p : ℕ) (v : Json) (h : Stands s p v) where
       rw (m, split) (take_at a h.rest (length a) refl)
 
   -- the skip over it
-  module _ {r : Skip} (w : Ends s p r) where
-    pub skip-found : r ≡ No → ⊥
+  module _ {r : Option ℕ} (w : Ends s p r) where
+    pub skip-found : r ≡ None → ⊥
     skip-found q =
-        let k : No ≡ End (length s - length h.rest) = sym q ∙ w.means v h.rest h.text h.free h.valid in
+        let k : None ≡ Some (length s - length h.rest) = sym q ∙ w.means v h.rest h.text h.free h.valid in
         let z : ◌≡◌ {A = ℕ} 0 1 = cc in omega arith
 
-    pub skip_is : (e : ℕ) → r ≡ End e → e ≡ length s - length h.rest
-    skip_is e q = let k : End e ≡ End (length s - length h.rest) = sym q ∙ w.means v h.rest h.text h.free h.valid in cc
+    pub skip_is : (e : ℕ) → r ≡ Some e → e ≡ length s - length h.rest
+    skip_is e q = let k : Some e ≡ Some (length s - length h.rest) = sym q ∙ w.means v h.rest h.text h.free h.valid in cc
 
-  module _ {r : Found} (w : EndsAt s p r) where
-    pub end-found : r ≡ Nothing → ⊥
+  module _ {r : Option ℕ} (w : EndsAt s p r) where
+    pub end-found : r ≡ None → ⊥
     end-found q =
-        let k : Nothing ≡ At (length s - length h.rest) = sym q ∙ w.means v h in
+        let k : None ≡ Some (length s - length h.rest) = sym q ∙ w.means v h in
         let z : ◌≡◌ {A = ℕ} 0 1 = cc in omega arith
 
-    pub end_is : (e : ℕ) → r ≡ At e → e ≡ length s - length h.rest
-    end_is e q = let k : At e ≡ At (length s - length h.rest) = sym q ∙ w.means v h in cc
+    pub end_is : (e : ℕ) → r ≡ Some e → e ≡ length s - length h.rest
+    end_is e q = let k : Some e ≡ Some (length s - length h.rest) = sym q ∙ w.means v h in cc
 
 -- ## Ends that may be known
 
-module _ (s : Bytes) (p : ℕ) (known : Found) where
+module _ (s : Bytes) (p : ℕ) (known : Option ℕ) where
   -- an end that was looked for, whatever is known
-  pub looked_for : (r : Found) → EndsAt s p r → EndsBy s p known r
+  pub looked_for : (r : Option ℕ) → EndsAt s p r → EndsBy s p known r
   looked_for r w = record { means = λ k. w; onward = w.onward }
 
   -- the one that is known
-  pub told : (e : ℕ) → known ≡ At e → KnownEnd s p known → EndsAt s p (At e)
+  pub told : (e : ℕ) → known ≡ Some e → KnownEnd s p known → EndsAt s p (Some e)
   told e q k = rw q at k
 
 -- an end that was looked for is known
-pub ended : (s : Bytes) (p : ℕ) (r : Found) → EndsAt s p r → KnownEnd s p r
-ended s p Nothing w = tt
-ended s p (At e) w = w
+pub ended : (s : Bytes) (p : ℕ) (r : Option ℕ) → EndsAt s p r → KnownEnd s p r
+ended s p None w = tt
+ended s p (Some e) w = w
 
 -- what is known of the value at one place, it is of the value at the same place
-pub known_at : (s : Bytes) (p q : ℕ) (f : Found) → p ≡ q → KnownEnd s q f → KnownEnd s p f
+pub known_at : (s : Bytes) (p q : ℕ) (f : Option ℕ) → p ≡ q → KnownEnd s q f → KnownEnd s p f
 known_at s p q f e k = rw (← e) at k
 
 -- where nothing is known
-pub known-none : (s : Bytes) (p : ℕ) (f : Found) → f ≡ Nothing → KnownEnd s p f
+pub known-none : (s : Bytes) (p : ℕ) (f : Option ℕ) → f ≡ None → KnownEnd s p f
 known-none s p f e = rw e tt
 
 -- a value that was found, by its place
-pub found-end : (s : Bytes) (found end : Found) (x : ℕ) → found ≡ At x → FoundEnd s found end → KnownEnd s x end
+pub found-end : (s : Bytes) (found end : Option ℕ) (x : ℕ) → found ≡ Some x → FoundEnd s found end → KnownEnd s x end
 found-end s found end x q k = rw q at k
 
-pub end_of-found : (s : Bytes) (found end : Found) (x : ℕ) → found ≡ At x → KnownEnd s x end → FoundEnd s found end
+pub end_of-found : (s : Bytes) (found end : Option ℕ) (x : ℕ) → found ≡ Some x → KnownEnd s x end → FoundEnd s found end
 end_of-found s found end x q k = rw q k
 
-pub end_of-none : (s : Bytes) (found end : Found) → found ≡ Nothing → FoundEnd s found end
+pub end_of-none : (s : Bytes) (found end : Option ℕ) → found ≡ None → FoundEnd s found end
 end_of-none s found end q = rw q tt
 
-pub known_as : (s : Bytes) (p : ℕ) (f g : Found) → f ≡ g → KnownEnd s p g → KnownEnd s p f
+pub known_as : (s : Bytes) (p : ℕ) (f g : Option ℕ) → f ≡ g → KnownEnd s p g → KnownEnd s p f
 known_as s p f g e k = rw e k
 
 -- ## One value only stands at a place: the one that is read there
@@ -146,8 +143,8 @@ module _ (s : Bytes) (p : ℕ) (w : Json) (q : Bytes) (k : read max_depth (drop 
   takes_of f o e v h = e ∙ ap f (sym (same-value v h).0)
 
   -- where it ends
-  pub ends_of : (e : ℕ) → drop e s ≡ q → p < e → e ≤ length s → EndsAt s p (At e)
+  pub ends_of : (e : ℕ) → drop e s ≡ q → p < e → e ≤ length s → EndsAt s p (Some e)
   ends_of e t a b = record {
-    means = λ v h. let l : length (drop e s) ≡ length h.rest = ap length (t ∙ sym (same-value v h).1) in let d = length-drop e s in ap At (omega arith);
+    means = λ v h. let l : length (drop e s) ≡ length h.rest = ap length (t ∙ sym (same-value v h).1) in let d = length-drop e s in ap Some (omega arith);
     onward = (a, b);
   }

@@ -1,7 +1,8 @@
 -- Strings in a text: where one begins, its bytes, and copying them.
 use mathlib.Core.Path.{◌≡◌, refl, sym, ap, ◌∙◌}
 use mathlib.Core.List.{[], ◌∷◌, ◌++◌}
-use mathlib.Core.Option.{Option, none, some}
+use Rattle.std.specs.declared.option.Option.{Option}
+use Rattle.std.specs.declared.option.Option.TheVariants.{None, Some}
 use mathlib.Core.Bool.{Bool, true, false, cond}
 use Prim.Native.Nat.{ℕ, ◌≤◌, ◌<◌, ◌+◌}
 use native.Mathlib.Omega.{arith}
@@ -16,32 +17,28 @@ use Rattle.base.proofs.OrderLaws.{less-differs}
 use Rattle.canonical_json.specs.Json.{Json, jnull, jtrue, jfalse, num, str, arr, obj, put_bytes, is_escaped}
 use Rattle.canonical_json.specs.Read.{raw}
 use Rattle.canonical_json.specs.Names.{CharAt}
-use Rattle.canonical_json.specs.declared.Char.{Char}
-use Rattle.canonical_json.specs.declared.Char.TheVariants.{Close, Byte}
 use Rattle.canonical_json.specs.Fields.{text}
 use Rattle.canonical_json.proofs.Puts.{put-str}
 use Rattle.canonical_json.proofs.CharsLaws.{neither}
 use Rattle.lookup.specs.Place.{Stands}
 use Rattle.lookup.specs.Leaves.{string_in, order_of, copied, Copies}
-use Rattle.lookup.specs.declared.Order.{Order}
-use Rattle.lookup.specs.declared.Order.TheVariants.{Smaller, Equal, Greater}
-use Rattle.lookup.specs.declared.Found.{Found}
-use Rattle.lookup.specs.declared.Found.TheVariants.{Nothing, At}
+use Rattle.std.specs.Ordering.{is_lt, is_eq}
+use Rattle.std.specs.declared.cmp.Ordering.TheVariants.{Less, Equal, Greater}
 use Rattle.lookup.proofs.FirstByte.{begins_with}
 use Rattle.lookup.proofs.StandsLaws.{there, front}
 
 -- ## Where a string begins
 
 module _ (s : Bytes) (p : ℕ) where
-  pub string-cut : length s ≤ p → string_in p (drop p s) ≡ Nothing
+  pub string-cut : length s ≤ p → string_in p (drop p s) ≡ None
   unfolding string_in
   string-cut h = rw (at-end s p h)
 
-  pub string-not : p < length s → (get_or s p 0 ≡ 34 → ⊥) → string_in p (drop p s) ≡ Nothing
+  pub string-not : p < length s → (get_or s p 0 ≡ 34 → ⊥) → string_in p (drop p s) ≡ None
   unfolding string_in
   string-not h e = rw (at-cons s p h, ne_eqb _ _ e)
 
-  pub string-here : p < length s → get_or s p 0 ≡ 34 → string_in p (drop p s) ≡ At (p + 1)
+  pub string-here : p < length s → get_or s p 0 ≡ 34 → string_in p (drop p s) ≡ Some (p + 1)
   unfolding string_in
   string-here h e = rw (at-cons s p h, e)
 
@@ -69,19 +66,19 @@ raw-bytes (b ∷ bs) r = go (is_escaped b) refl (raw-bytes bs r)
     go false e h = let n = neither b e in raw-plain b _ n.0 n.1 ∙ ap (λ (x : Bytes). b ∷ x) h
 
 -- one byte of it, as the code reads it
-module _ (s : Bytes) (i : ℕ) (r : Char) (w : CharAt s i r) where
-  pub char_close : r ≡ Close → raw (drop i s) ≡ []
+module _ (s : Bytes) (i : ℕ) (r : Option (ℕ × ℕ)) (w : CharAt s i r) where
+  pub char_close : r ≡ None → raw (drop i s) ≡ []
   char_close q = rw q at w
 
-  pub char_byte : (b j : ℕ) → r ≡ Byte b j → (raw (drop i s) ≡ b ∷ raw (drop j s)) × (i < j) × (j ≤ length s)
+  pub char_byte : (b j : ℕ) → r ≡ Some (b, j) → (raw (drop i s) ≡ b ∷ raw (drop j s)) × (i < j) × (j ≤ length s)
   char_byte b j q = rw q at w
 
 -- the string that is found is the value's text, and where the value is none nothing is found
-abbrev pub TextOf : Bytes → Found → Option Bytes → Type 0
-TextOf s Nothing o = o ≡ none
-TextOf s (At i) o = o ≡ some (raw (drop i s))
+abbrev pub TextOf : Bytes → Option ℕ → Option Bytes → Type 0
+TextOf s None o = o ≡ None
+TextOf s (Some i) o = o ≡ Some (raw (drop i s))
 
-string-first : (s : Bytes) (p : ℕ) (v : Json) → Stands s p v → string_in p (drop p s) ≡ cond (begins_with 34 v) (At (p + 1)) Nothing
+string-first : (s : Bytes) (p : ℕ) (v : Json) → Stands s p v → string_in p (drop p s) ≡ cond (begins_with 34 v) (Some (p + 1)) None
 unfolding string_in
 string-first s p v h = let b = front s p v h in rw (b.is, b.with 34 refl)
 
@@ -92,15 +89,15 @@ text_of s p jtrue h = rw (string-first s p jtrue h) refl
 text_of s p jfalse h = rw (string-first s p jfalse h) refl
 text_of s p (num true ds) h = rw (string-first s p (num true ds) h) refl
 text_of s p (num false ds) h = rw (string-first s p (num false ds) h) refl
-text_of s p (str b) h = rw (string-first s p (str b) h) (ap some (sym (ap raw (there s p 34 _ (h.text ∙ put-str b h.rest)).2 ∙ raw-bytes b h.rest)))
+text_of s p (str b) h = rw (string-first s p (str b) h) (ap Some (sym (ap raw (there s p 34 _ (h.text ∙ put-str b h.rest)).2 ∙ raw-bytes b h.rest)))
 text_of s p (arr xs) h = rw (string-first s p (arr xs) h) refl
 text_of s p (obj ms) h = rw (string-first s p (obj ms) h) refl
 
 -- the string's own text: its bytes as they are written, and the closing quote
-string_standing : (s : Bytes) (p i : ℕ) (v : Json) (h : Stands s p v) → string_in p (drop p s) ≡ At i → drop i s ≡ put_bytes (raw (drop i s)) (34 ∷ h.rest)
+string_standing : (s : Bytes) (p i : ℕ) (v : Json) (h : Stands s p v) → string_in p (drop p s) ≡ Some i → drop i s ≡ put_bytes (raw (drop i s)) (34 ∷ h.rest)
 string_standing s p i v h e = go v h
   where
-    other : Nothing ≡ At i → {A : Type 0} → A
+    other : None ≡ Some i → {A : Type 0} → A
     other k = let z : ◌≡◌ {A = ℕ} 0 1 = cc in absurd (omega arith)
 
     go : (v : Json) (h : Stands s p v) → drop i s ≡ put_bytes (raw (drop i s)) (34 ∷ h.rest)
@@ -110,21 +107,21 @@ string_standing s p i v h e = go v h
     go (num true ds) h = other (sym (string-first s p (num true ds) h) ∙ e)
     go (num false ds) h = other (sym (string-first s p (num false ds) h) ∙ e)
     go (str b) h =
-        let k : At (p + 1) ≡ At i = sym (string-first s p (str b) h) ∙ e in
+        let k : Some (p + 1) ≡ Some i = sym (string-first s p (str b) h) ∙ e in
         let n : p + 1 ≡ i = cc in
         let t : drop i s ≡ put_bytes b (34 ∷ h.rest) = ap (λ (x : ℕ). drop x s) (sym n) ∙ (there s p 34 _ (h.text ∙ put-str b h.rest)).2 in
         t ∙ ap (λ (x : Bytes). put_bytes x (34 ∷ h.rest)) (sym (ap raw t ∙ raw-bytes b h.rest))
     go (arr xs) h = other (sym (string-first s p (arr xs) h) ∙ e)
     go (obj ms) h = other (sym (string-first s p (obj ms) h) ∙ e)
 
-module _ (s : Bytes) (p : ℕ) (v : Json) (h : Stands s p v) (r : Found) (q : r ≡ string_in p (drop p s)) where
-  pub no_text : r ≡ Nothing → text v ≡ none
-  no_text e = let k : string_in p (drop p s) ≡ Nothing = sym q ∙ e in rw k at (text_of s p v h)
+module _ (s : Bytes) (p : ℕ) (v : Json) (h : Stands s p v) (r : Option ℕ) (q : r ≡ string_in p (drop p s)) where
+  pub no_text : r ≡ None → text v ≡ None
+  no_text e = let k : string_in p (drop p s) ≡ None = sym q ∙ e in rw k at (text_of s p v h)
 
-  pub text-there : (i : ℕ) → r ≡ At i → text v ≡ some (raw (drop i s))
-  text-there i e = let k : string_in p (drop p s) ≡ At i = sym q ∙ e in rw k at (text_of s p v h)
+  pub text-there : (i : ℕ) → r ≡ Some i → text v ≡ Some (raw (drop i s))
+  text-there i e = let k : string_in p (drop p s) ≡ Some i = sym q ∙ e in rw k at (text_of s p v h)
 
-  pub string-text : (i : ℕ) → r ≡ At i → drop i s ≡ put_bytes (raw (drop i s)) (34 ∷ h.rest)
+  pub string-text : (i : ℕ) → r ≡ Some i → drop i s ≡ put_bytes (raw (drop i s)) (34 ∷ h.rest)
   string-text i e = string_standing s p i v h (sym q ∙ e)
 
 -- ## The order of strings, one byte at a time: the one goes on at a, the other at j
@@ -134,7 +131,7 @@ module _ (a k : Bytes) (j : ℕ) where
   unfolding order_of less same
   order_ended e h = rw (e, at-end k j h) refl
 
-  pub order_prefix : a ≡ [] → j < length k → order_of a (drop j k) ≡ Smaller
+  pub order_prefix : a ≡ [] → j < length k → order_of a (drop j k) ≡ Less
   unfolding order_of less
   order_prefix e h = rw (e, at-cons k j h) refl
 
@@ -144,7 +141,7 @@ module _ (a k : Bytes) (j : ℕ) where
     order_longer h = rw (e, at-end k j h) refl
 
     module _ (h : j < length k) where
-      pub order_below : b < get_or k j 0 → order_of a (drop j k) ≡ Smaller
+      pub order_below : b < get_or k j 0 → order_of a (drop j k) ≡ Less
       unfolding order_of less
       order_below l = rw (e, at-cons k j h, ne_eqb b (get_or k j 0) (λ (q : b ≡ get_or k j 0). omega arith), lt-ltb b (get_or k j 0) l) refl
 
@@ -157,32 +154,21 @@ module _ (a k : Bytes) (j : ℕ) where
       order_next q = rw (e, at-cons k j h, eq-eqb b (get_or k j 0) q) refl
 
 -- what an order says
-
-abbrev pub is_smaller : Order → Bool
-is_smaller Smaller = true
-is_smaller Equal = false
-is_smaller Greater = false
-
-abbrev pub is_equal : Order → Bool
-is_equal Smaller = false
-is_equal Equal = true
-is_equal Greater = false
-
-module _ (a b : Bytes) (r x : Order) (w : r ≡ order_of a b) (e : r ≡ x) where
-  pub order_less : is_smaller x ≡ less a b
+module _ (a b : Bytes) where
+  pub order_less : is_lt (order_of a b) ≡ less a b
   unfolding order_of
-  order_less = ap is_smaller (sym e ∙ w) ∙ go (less a b) (same a b)
+  order_less = go (less a b) (same a b)
     where
-      go : (l t : Bool) → is_smaller (cond l Smaller (cond t Equal Greater)) ≡ l
+      go : (l t : Bool) → is_lt (cond l Less (cond t Equal Greater)) ≡ l
       go true t = refl
       go false true = refl
       go false false = refl
 
-  pub order_same : is_equal x ≡ same a b
+  pub order_same : is_eq (order_of a b) ≡ same a b
   unfolding order_of
-  order_same = ap is_equal (sym e ∙ w) ∙ go (less a b) refl (same a b) refl
+  order_same = go (less a b) refl (same a b) refl
     where
-      go : (l : Bool) → less a b ≡ l → (t : Bool) → same a b ≡ t → is_equal (cond l Smaller (cond t Equal Greater)) ≡ same a b
+      go : (l : Bool) → less a b ≡ l → (t : Bool) → same a b ≡ t → is_eq (cond l Less (cond t Equal Greater)) ≡ same a b
       go true p t q = sym (less-differs a b p)
       go false p true q = sym q
       go false p false q = sym q

@@ -1,6 +1,7 @@
 -- true and false at a place of the text.
 use mathlib.Core.Path.{◌≡◌, refl, ◌∙◌}
-use mathlib.Core.Option.{Option, none, some}
+use Rattle.std.specs.declared.option.Option.{Option}
+use Rattle.std.specs.declared.option.Option.TheVariants.{None, Some}
 use mathlib.Core.Bool.{Bool, true, false, cond}
 use Prim.Native.Nat.{ℕ, ◌≤◌, ◌<◌}
 use lib.ListN.{length, drop, get_or}
@@ -15,19 +16,19 @@ use Rattle.lookup.proofs.FirstByte.{begins_with}
 use Rattle.lookup.proofs.StandsLaws.{front}
 
 module _ (s : Bytes) (p : ℕ) where
-  pub truth-cut : length s ≤ p → none ≡ truth_in (drop p s)
+  pub truth-cut : length s ≤ p → None ≡ truth_in (drop p s)
   unfolding truth_in
   truth-cut h = rw (at-end s p h)
 
-  pub truth-true : p < length s → get_or s p 0 ≡ 116 → some true ≡ truth_in (drop p s)
+  pub truth-true : p < length s → get_or s p 0 ≡ 116 → Some true ≡ truth_in (drop p s)
   unfolding truth_in
   truth-true h e = rw (at-cons s p h, e)
 
-  pub truth-false : p < length s → get_or s p 0 ≡ 102 → some false ≡ truth_in (drop p s)
+  pub truth-false : p < length s → get_or s p 0 ≡ 102 → Some false ≡ truth_in (drop p s)
   unfolding truth_in
   truth-false h e = rw (at-cons s p h, e)
 
-  pub truth-not : p < length s → (get_or s p 0 ≡ 116 → ⊥) → (get_or s p 0 ≡ 102 → ⊥) → none ≡ truth_in (drop p s)
+  pub truth-not : p < length s → (get_or s p 0 ≡ 116 → ⊥) → (get_or s p 0 ≡ 102 → ⊥) → None ≡ truth_in (drop p s)
   unfolding truth_in
   truth-not h e f = rw (at-cons s p h, ne_eqb _ _ e, ne_eqb _ _ f)
 
@@ -35,7 +36,7 @@ pub truth_of : (s : Bytes) (p : ℕ) (v : Json) → Stands s p v → truth_in (d
 unfolding truth_in truth
 truth_of s p v h = let b = front s p v h in rw (b.is, b.with 116 refl, b.with 102 refl) (go v)
   where
-    go : (v : Json) → cond (begins_with 116 v) (some true) (cond (begins_with 102 v) (some false) none) ≡ truth v
+    go : (v : Json) → cond (begins_with 116 v) (Some true) (cond (begins_with 102 v) (Some false) None) ≡ truth v
     go jnull = refl
     go jtrue = refl
     go jfalse = refl

@@ -1,12 +1,12 @@
 -- Elements of an array and members of an object in order, with their places.
 use Rattle.std.specs.Prelude.{◌≡◌, [], ◌∷◌, cond, ℕ, ◌+◌, ◌-◌, ◌<◌, ◌≤◌, eqb, length, drop}
-use Rattle.std.proofs.Math.Option.{Option, none, some}
+use Rattle.std.specs.declared.option.Option.{Option}
+use Rattle.std.specs.declared.option.Option.TheVariants.{None, Some}
 use Prim.Native.Char.{code}
 use Rattle.base.specs.Bytes.{Bytes}
 use Rattle.canonical_json.specs.Json.{Json, Items, inil, icons, Members, mnil, mcons, put, put_bytes, put_str, put_more_items, put_more_members, ValidItems, ValidMembers, max_depth}
 use Rattle.canonical_json.specs.Fields.{items, members}
 use Rattle.lookup.specs.Place.{Stands, KnownEnd}
-use Rattle.lookup.specs.declared.Found.{Found}
 use Rattle.lookup.specs.declared.Element.{Element}
 use Rattle.lookup.specs.declared.Element.TheVariants as element
 use Rattle.lookup.specs.declared.Member.{Member}
@@ -36,7 +36,7 @@ pub record Opens (s : Bytes) (p start close : ℕ) (r : Element) : Type 0 where
   pub onward : ElementAfter s p r
 
 -- what follows the value at i, whose end may be known: the closing byte, or one byte more and then the next element
-pub record Follows (s : Bytes) (i close : ℕ) (end : Found) (r : Element) : Type 0 where
+pub record Follows (s : Bytes) (i close : ℕ) (end : Option ℕ) (r : Element) : Type 0 where
   pub means : KnownEnd s i end → (v : Json) (here : Stands s i v)
       → r ≡ closes close (length s - length here.rest + 1) (length s - length here.rest + 1) here.rest
   pub onward : ElementAfter s i r
@@ -51,8 +51,8 @@ pub data ItemsLeft (s rest : Bytes) : Element → Items → Type 0 where
 
 -- r is where the elements o begin, or says that there is no array
 abbrev pub ItemsOf : Bytes → Bytes → Element → Option Items → Type 0
-ItemsOf s rest r none = r ≡ element.NoArray
-ItemsOf s rest r (some xs) = ItemsLeft s rest r xs
+ItemsOf s rest r None = r ≡ element.NoArray
+ItemsOf s rest r (Some xs) = ItemsLeft s rest r xs
 
 -- What the functions promise that walk: `means` where a value stands, and elsewhere the answer is the program's choice; `onward` of every text, so that loops end.
 -- `place`: the first element begins past the opening bracket, a later one past the value before it and a comma. (Equal elements may stand elsewhere too.)
@@ -67,7 +67,7 @@ pub record NextElement (s : Bytes) (i : ℕ) (r : Element) : Type 0 where
   pub place : (v : Json) (here : Stands s i v) (j : ℕ) → r ≡ element.At j → j ≡ length s - length here.rest + 1
 
 -- the same where the end of the element at i may be known; a place lies onward of every text
-pub record NextElementBy (s : Bytes) (i : ℕ) (end : Found) (r : Element) : Type 0 where
+pub record NextElementBy (s : Bytes) (i : ℕ) (end : Option ℕ) (r : Element) : Type 0 where
   pub means : KnownEnd s i end → NextElement s i r
   pub onward : ElementAfter s i r
 
@@ -82,8 +82,8 @@ pub data MembersLeft (s rest : Bytes) : Member → Members → Type 0 where
 
 -- r is where the members o begin, or says that there is no object
 abbrev pub MembersOf : Bytes → Bytes → Member → Option Members → Type 0
-MembersOf s rest r none = r ≡ member.NoObject
-MembersOf s rest r (some ms) = MembersLeft s rest r ms
+MembersOf s rest r None = r ≡ member.NoObject
+MembersOf s rest r (Some ms) = MembersLeft s rest r ms
 
 -- a member that is handed back lies after p and in the text
 abbrev pub MemberAfter : Bytes → ℕ → Member → Type 0
@@ -117,6 +117,6 @@ pub record NextMember (s : Bytes) (j : ℕ) (r : Member) : Type 0 where
   pub place : (v : Json) (here : Stands s j v) → NameAt r (length s - length here.rest + 1 + 1)
 
 -- the same where the end of the value at j may be known
-pub record NextMemberBy (s : Bytes) (j : ℕ) (end : Found) (r : Member) : Type 0 where
+pub record NextMemberBy (s : Bytes) (j : ℕ) (end : Option ℕ) (r : Member) : Type 0 where
   pub means : KnownEnd s j end → NextMember s j r
   pub onward : MemberAfter s j r

@@ -6,49 +6,41 @@ ghost use Rattle.std.specs.Prelude.{◌≡◌, length, drop};
 ghost use Rattle.base.specs.Bytes.{Bytes, same};
 ghost use Rattle.canonical_json.specs.Read.{raw};
 ghost use Rattle.lookup.specs.Place.{EndsAt, KnownEnd, FoundEnd, EndsBy, FindsMember, note, FindsMembers};
-ghost use Rattle.lookup.specs.declared.Found.TheVariants.{Nothing};
 ghost use Rattle.lookup.specs.Walk.{Opens, Follows, FirstElement, NextElement, NextElementBy, MemberAt, FirstMember, NextMember, NextMemberBy};
-ghost use Rattle.lookup.specs.Leaves.{string_in, order_of, Copies, leading_to, number_in, view_number, truth_in, view_truth};
+ghost use Rattle.lookup.specs.Leaves.{string_in, order_of, Copies, leading_to, number_in, truth_in};
 
-use canonical_json::{Char, Skip};
-
-// The place of what was looked for.
-#[derive(Clone, Copy)]
-pub enum Found {
-    Nothing,
-    At(usize),
-}
+use std::cmp::Ordering;
 
 // Just past the value at `at`. The contract speaks of values that stand there, so nothing is validated again.
-pub fn value_end(s: &[u8], at: usize) -> Found
+pub fn value_end(s: &[u8], at: usize) -> Option<usize>
     ensures { EndsAt s.now at result }
 {
     match skip::value(s, at) {
-        Skip::No => {
-            return Found::Nothing;
+        None => {
+            return None;
         }
-        Skip::End(e) => {
-            return Found::At(e);
+        Some(e) => {
+            return Some(e);
         }
     }
 }
 
 // The same, where a reader of the value may have told its end.
-fn end_by(s: &[u8], at: usize, known: Found) -> Found
+fn end_by(s: &[u8], at: usize, known: Option<usize>) -> Option<usize>
     ensures { EndsBy s.now at known result }
 {
     match known {
-        Found::Nothing => {
+        None => {
             return value_end(s, at);
         }
-        Found::At(e) => {
+        Some(e) => {
             if e <= at {
                 return value_end(s, at);
             }
             if s.len() < e {
                 return value_end(s, at);
             }
-            return Found::At(e);
+            return Some(e);
         }
     }
 }
@@ -84,14 +76,14 @@ fn opened(s: &[u8], at: usize, start: u8, close: u8) -> Element
 }
 
 // What follows the value at `i`, whose end may be known: the closing byte, or a comma and the next element or member.
-fn following(s: &[u8], i: usize, close: u8, end: Found) -> Element
+fn following(s: &[u8], i: usize, close: u8, end: Option<usize>) -> Element
     ensures { Follows s.now i close end result }
 {
     match end_by(s, i, end) {
-        Found::Nothing => {
+        None => {
             return Element::NoArray;
         }
-        Found::At(e) => {
+        Some(e) => {
             if s.len() <= e {
                 return Element::NoArray;
             }
@@ -115,11 +107,11 @@ pub fn first_element(s: &[u8], at: usize) -> Element
 pub fn next_element(s: &[u8], i: usize) -> Element
     ensures { NextElement s.now i result }
 {
-    following(s, i, b']', Found::Nothing)
+    following(s, i, b']', None)
 }
 
 // The same, where a reader of the element at `i` may have told its end.
-pub fn next_element_by(s: &[u8], i: usize, end: Found) -> Element
+pub fn next_element_by(s: &[u8], i: usize, end: Option<usize>) -> Element
     ensures { NextElementBy s.now i end result }
 {
     following(s, i, b']', end)
@@ -145,10 +137,10 @@ fn member_at(s: &[u8], i: usize) -> Member
     }
     let name = i + 1;
     match value_end(s, i) {
-        Found::Nothing => {
+        None => {
             return Member::NoObject;
         }
-        Found::At(e) => {
+        Some(e) => {
             if s.len() <= e {
                 return Member::NoObject;
             }
@@ -178,11 +170,11 @@ pub fn first_member(s: &[u8], at: usize) -> Member
 pub fn next_member(s: &[u8], value: usize) -> Member
     ensures { NextMember s.now value result }
 {
-    next_member_by(s, value, Found::Nothing)
+    next_member_by(s, value, None)
 }
 
 // The same, where a reader of the value may have told its end.
-pub fn next_member_by(s: &[u8], value: usize, end: Found) -> Member
+pub fn next_member_by(s: &[u8], value: usize, end: Option<usize>) -> Member
     ensures { NextMemberBy s.now value end result }
 {
     match following(s, value, b'}', end) {
@@ -202,52 +194,56 @@ pub fn next_member_by(s: &[u8], value: usize, end: Found) -> Member
 #[derive(Clone, Copy)]
 pub struct Extent {
     pub at: usize,
-    pub end: Found,
+    pub end: Option<usize>,
+}
+
+// What was read of a value, and where the value ends, if that is known.
+#[derive(Clone, Copy)]
+pub struct Spanned<T> {
+    pub value: T,
+    pub end: Option<usize>,
 }
 
 // Of no value is the end known.
 pub fn no_extent() -> Extent
-    ensures { result.end ≡ Nothing }
+    ensures { result.end ≡ None }
 {
-    Extent {
-        at: 0,
-        end: Found::Nothing,
-    }
+    Extent { at: 0, end: None }
 }
 
 // The value that was found, with what is known of its end.
-pub fn extent_of(found: Found, end: Found) -> Extent
+pub fn extent_of(found: Option<usize>, end: Option<usize>) -> Extent
     ensures { (s : Bytes) → FoundEnd s found end → KnownEnd s result.at result.end }
 {
     match found {
-        Found::Nothing => {
+        None => {
             return no_extent();
         }
-        Found::At(at) => {
+        Some(at) => {
             return Extent { at, end };
         }
     }
 }
 
 // What is known of the end of the value at `at`.
-fn known_end(at: usize, known: Extent) -> Found
+fn known_end(at: usize, known: Extent) -> Option<usize>
     ensures { (s : Bytes) → KnownEnd s known.at known.end → KnownEnd s at result }
 {
     if at != known.at {
-        return Found::Nothing;
+        return None;
     }
     known.end
 }
 
 // The value of the member of that name, in the object at `at`.
-pub fn find_member(s: &[u8], at: usize, name: &[u8]) -> Found
+pub fn find_member(s: &[u8], at: usize, name: &[u8]) -> Option<usize>
     ensures { FindsMember s.now at name.now result }
 {
     find_member_by(s, at, name, no_extent())
 }
 
 // The same, without a walk over the value whose end is known.
-pub fn find_member_by(s: &[u8], at: usize, name: &[u8], known: Extent) -> Found
+pub fn find_member_by(s: &[u8], at: usize, name: &[u8], known: Extent) -> Option<usize>
     ensures { KnownEnd s.now known.at known.end → FindsMember s.now at name.now result }
 {
     let mut m = first_member(s, at);
@@ -255,16 +251,16 @@ pub fn find_member_by(s: &[u8], at: usize, name: &[u8], known: Extent) -> Found
         match m {
             Member::At { name: n, value: v } => {
                 if text_is(s, n, name) {
-                    return Found::At(v);
+                    return Some(v);
                 }
                 let end = known_end(v, known);
                 m = next_member_by(s, v, end);
             }
             Member::NoObject => {
-                return Found::Nothing;
+                return None;
             }
             Member::End(_) => {
-                return Found::Nothing;
+                return None;
             }
         }
     }
@@ -275,26 +271,26 @@ pub fn find_member_by(s: &[u8], at: usize, name: &[u8], known: Extent) -> Found
 // The values of four members by their places, and the end of the object that they were looked for in.
 #[derive(Clone, Copy)]
 pub struct Members {
-    pub first: Found,
-    pub second: Found,
-    pub third: Found,
-    pub fourth: Found,
-    pub end: Found,
+    pub first: Option<usize>,
+    pub second: Option<usize>,
+    pub third: Option<usize>,
+    pub fourth: Option<usize>,
+    pub end: Option<usize>,
 }
 
 // What was found of that name, once the member is seen whose name is read at `i` and whose value stands at `value`.
-pub fn noted(s: &[u8], i: usize, value: usize, name: &[u8], found: Found) -> Found
+pub fn noted(s: &[u8], i: usize, value: usize, name: &[u8], found: Option<usize>) -> Option<usize>
     ensures { result ≡ note (same (raw (drop i s.now)) name.now) value found }
 {
     match found {
-        Found::Nothing => {
+        None => {
             if text_is(s, i, name) {
-                return Found::At(value);
+                return Some(value);
             }
-            return Found::Nothing;
+            return None;
         }
-        Found::At(x) => {
-            return Found::At(x);
+        Some(x) => {
+            return Some(x);
         }
     }
 }
@@ -318,10 +314,10 @@ pub fn find_members_by(
 ) -> Members
     ensures { KnownEnd s.now known.at known.end → FindsMembers s.now at a.now b.now c.now d.now result }
 {
-    let mut first = Found::Nothing;
-    let mut second = Found::Nothing;
-    let mut third = Found::Nothing;
-    let mut fourth = Found::Nothing;
+    let mut first = None;
+    let mut second = None;
+    let mut third = None;
+    let mut fourth = None;
     let mut m = first_member(s, at);
     loop {
         match m {
@@ -339,7 +335,7 @@ pub fn find_members_by(
                     second,
                     third,
                     fourth,
-                    end: Found::Nothing,
+                    end: None,
                 };
             }
             Member::End(e) => {
@@ -348,7 +344,7 @@ pub fn find_members_by(
                     second,
                     third,
                     fourth,
-                    end: Found::At(e),
+                    end: Some(e),
                 };
             }
         }
@@ -358,49 +354,41 @@ pub fn find_members_by(
 // ---- Strings: `i` stands just past the opening quote; escapes are undone
 
 // Where the string at `at` begins, just past its opening quote.
-pub fn string_at(s: &[u8], at: usize) -> Found
+pub fn string_at(s: &[u8], at: usize) -> Option<usize>
     ensures { result ≡ string_in at (drop at s.now) }
 {
     if s.len() <= at {
-        return Found::Nothing;
+        return None;
     }
     if s[at] != b'"' {
-        return Found::Nothing;
+        return None;
     }
-    Found::At(at + 1)
-}
-
-// How a string stands to another in the order of names.
-#[derive(Clone, Copy)]
-pub enum Order {
-    Smaller,
-    Equal,
-    Greater,
+    Some(at + 1)
 }
 
 // How the string stands to `k`: byte by byte, a shorter prefix first.
-pub fn text_order(s: &[u8], i: usize, k: &[u8]) -> Order
+pub fn text_order(s: &[u8], i: usize, k: &[u8]) -> Ordering
     ensures { result ≡ order_of (raw (drop i s.now)) k.now }
 {
     let mut p = i;
     let mut j = 0;
     loop {
         match canonical_json::char_at(s, p) {
-            Char::Close => {
+            None => {
                 if j == k.len() {
-                    return Order::Equal;
+                    return Ordering::Equal;
                 }
-                return Order::Smaller;
+                return Ordering::Less;
             }
-            Char::Byte(b, next) => {
+            Some((b, next)) => {
                 if k.len() <= j {
-                    return Order::Greater;
+                    return Ordering::Greater;
                 }
                 if b < k[j] {
-                    return Order::Smaller;
+                    return Ordering::Less;
                 }
                 if k[j] < b {
-                    return Order::Greater;
+                    return Ordering::Greater;
                 }
                 p = next;
                 j += 1;
@@ -413,11 +401,7 @@ pub fn text_order(s: &[u8], i: usize, k: &[u8]) -> Order
 pub fn text_is(s: &[u8], i: usize, k: &[u8]) -> bool
     ensures { result ≡ same (raw (drop i s.now)) k.now }
 {
-    match text_order(s, i, k) {
-        Order::Smaller => false,
-        Order::Equal => true,
-        Order::Greater => false,
-    }
+    text_order(s, i, k).is_eq()
 }
 
 // How many bytes the string has.
@@ -428,10 +412,10 @@ pub fn text_len(s: &[u8], i: usize) -> usize
     let mut n = p - i;
     loop {
         match canonical_json::char_at(s, p) {
-            Char::Close => {
+            None => {
                 return n;
             }
-            Char::Byte(_, next) => {
+            Some((_, next)) => {
                 p = next;
                 n += 1;
             }
@@ -450,10 +434,10 @@ pub fn copy_text(s: &[u8], i: usize, out: &mut [u8]) -> bool
     let mut n: usize = 0;
     loop {
         match canonical_json::char_at(s, p) {
-            Char::Close => {
+            None => {
                 return true;
             }
-            Char::Byte(b, next) => {
+            Some((b, next)) => {
                 out[n] = b;
                 p = next;
                 n += 1;
@@ -464,12 +448,6 @@ pub fn copy_text(s: &[u8], i: usize, out: &mut [u8]) -> bool
 
 // ---- Numbers and truth values
 
-#[derive(Clone, Copy)]
-pub enum Number {
-    No,
-    Is(u64),
-}
-
 fn wide(b: u8) -> u64
     ensures { result ≡ b }
 {
@@ -477,76 +455,70 @@ fn wide(b: u8) -> u64
 }
 
 // The number that the digits at `at` write, where it is at most hi. No sum wraps, however many digits there are.
-fn digits(s: &[u8], at: usize, hi: u64) -> Number
-    ensures { view_number result ≡ leading_to hi (drop at s.now) }
+fn digits(s: &[u8], at: usize, hi: u64) -> Option<u64>
+    ensures { result ≡ leading_to hi (drop at s.now) }
 {
     let mut n: u64 = 0;
     let mut i = at;
     while i < s.len() {
         let b = s[i];
         if b < 48 {
-            return Number::Is(n);
+            return Some(n);
         }
         if 57 < b {
-            return Number::Is(n);
+            return Some(n);
         }
         let d = wide(b - 48);
         if hi / 10 < n {
-            return Number::No;
+            return None;
         }
         let m = n * 10;
         if hi - m < d {
-            return Number::No;
+            return None;
         }
         n = m + d;
         i += 1;
     }
-    Number::Is(n)
+    Some(n)
 }
 
 // The whole number from lo to hi that stands at `at`.
-pub fn number_at(s: &[u8], at: usize, lo: u64, hi: u64) -> Number
-    ensures { view_number result ≡ number_in lo hi (drop at s.now) }
+pub fn number_at(s: &[u8], at: usize, lo: u64, hi: u64) -> Option<u64>
+    ensures { result ≡ number_in lo hi (drop at s.now) }
 {
     if s.len() <= at {
-        return Number::No;
+        return None;
     }
     let first = s[at];
     if first < 48 {
-        return Number::No;
+        return None;
     }
     if 57 < first {
-        return Number::No;
+        return None;
     }
     match digits(s, at, hi) {
-        Number::No => {
-            return Number::No;
+        None => {
+            return None;
         }
-        Number::Is(n) => {
+        Some(n) => {
             if n < lo {
-                return Number::No;
+                return None;
             }
-            return Number::Is(n);
+            return Some(n);
         }
     }
-}
-
-#[derive(Clone, Copy)]
-pub enum Truth {
-    No,
-    Is(bool),
 }
 
 // true or false, where it stands at `at`.
-pub fn truth_at(s: &[u8], at: usize) -> Truth
-    ensures { view_truth result ≡ truth_in (drop at s.now) }
+pub fn truth_at(s: &[u8], at: usize) -> Option<bool>
+    ensures { result ≡ truth_in (drop at s.now) }
 {
     if s.len() <= at {
-        return Truth::No;
+        return None;
     }
     match s[at] {
-        b't' => Truth::Is(true),
-        b'f' => Truth::Is(false),
-        _ => Truth::No,
+        b't' => Some(true),
+        b'f' => Some(false),
+        _ => None,
     }
 }

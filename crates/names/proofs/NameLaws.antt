@@ -3,7 +3,7 @@ use Prim.Native.Nat.{ℕ, ◌+◌, ◌-◌, ◌<◌, ◌≤◌, min}
 use mathlib.Core.Path.{◌≡◌}
 use mathlib.Core.Bool.{true, false}
 use mathlib.Core.List.{List, [], ◌∷◌}
-use mathlib.Core.Option.{none, some}
+use Rattle.std.specs.declared.option.Option.TheVariants.{None, Some}
 use native.Mathlib.Nat.{sub-zero}
 use borrow.Author.Tests.{lt-ltb, le-ltb}
 use lib.ListN.{get_or}
@@ -39,7 +39,7 @@ module _ (t : Names) (n i : ℕ) where
 
   -- ## What they say of the name x
 
-  pub listed-hit : (x : Bytes) → i < n → same x (view_name (entry_at t i).name) ≡ true → listed_as x (names_from t n i) ≡ some (view_listed (entry_at t i).listed)
+  pub listed-hit : (x : Bytes) → i < n → same x (view_name (entry_at t i).name) ≡ true → listed_as x (names_from t n i) ≡ Some (view_listed (entry_at t i).listed)
   unfolding listed_as view_named
   listed-hit x h e = rw (names-next h, e)
 
@@ -47,7 +47,7 @@ module _ (t : Names) (n i : ℕ) where
   unfolding listed_as view_named
   listed-skip x h e = rw (names-next h, e)
 
-  pub listed-end : (x : Bytes) → n ≤ i → listed_as x (names_from t n i) ≡ none
+  pub listed-end : (x : Bytes) → n ≤ i → listed_as x (names_from t n i) ≡ None
   unfolding listed_as
   listed-end x h = rw (names-end h)
 
@@ -91,10 +91,10 @@ module _ (held new : Names) (n m i j : ℕ) (h : i < n) (s : Sought held new m i
 -- ## What a snapshot says of `targets.json`
 
 module _ (s : Snapshot) where
-  pub entry-some : (l : rules.Listed) → listed_as (bytes "targets.json") s.names ≡ some l → l ≡ targets_entry s
+  pub entry-some : (l : rules.Listed) → listed_as (bytes "targets.json") s.names ≡ Some l → l ≡ targets_entry s
   unfolding targets_entry
   entry-some l e = rw e
 
-  pub entry-none : listed_as (bytes "targets.json") s.names ≡ none → record { version = 0; length = none; digest = none } ≡ targets_entry s
+  pub entry-none : listed_as (bytes "targets.json") s.names ≡ None → record { version = 0; length = None; digest = None } ≡ targets_entry s
   unfolding targets_entry
   entry-none e = rw e

@@ -1,7 +1,8 @@
 // What is read from files and held in the trusted state, as structs by value, and 01's limits. specs/View.antt says what each stands for.
 #![tactic(auto)]
 
-ghost use Rattle.std.specs.Prelude.{◌≡◌, min};
+ghost use Rattle.std.specs.Prelude.{◌≡◌, min, map, take};
+ghost use Rattle.records.specs.View.{view_id, view_key, view_named, view_entries, view_table, view_name, view_names};
 
 use date::Time;
 
@@ -34,7 +35,7 @@ pub const SIGNATURE: usize = 64;
 
 // A keyid, a public key or a digest.
 #[repr(C)]
-#[derive(Clone, Copy)]
+#[derive(Clone, Copy, PartialEq, Eq)]
 pub struct Id {
     pub bytes: [u8; 32],
 }
@@ -144,5 +145,44 @@ pub struct Targets {
 pub fn at_most(n: usize, most: usize) -> usize
     ensures { result ≡ min n most }
 {
-    if n < most { n } else { most }
+    n.min(most)
+}
+
+impl Entries {
+    // Those that are meant.
+    pub fn all(&self) -> &[Id]
+        ensures meant { result.now ≡ take (min self.now.count MAX_ENTRIES) self.now.ids }
+        ensures viewed { map view_id result.now ≡ view_entries self.now }
+    {
+        &self.ids[..at_most(self.count, MAX_ENTRIES)]
+    }
+}
+
+impl KeyTable {
+    // Those that are meant.
+    pub fn all(&self) -> &[Key]
+        ensures meant { result.now ≡ take (min self.now.count MAX_KEYS) self.now.keys }
+        ensures viewed { map view_key result.now ≡ view_table self.now }
+    {
+        &self.keys[..at_most(self.count, MAX_KEYS)]
+    }
+}
+
+impl Name {
+    // The bytes that are meant.
+    pub fn text(&self) -> &[u8]
+        ensures { result.now ≡ view_name self.now }
+    {
+        &self.bytes[..at_most(self.length, MAX_NAME)]
+    }
+}
+
+impl Names {
+    // Those that are meant.
+    pub fn listed(&self) -> &[Named]
+        ensures meant { result.now ≡ take (min self.now.count MAX_NAMES) self.now.named }
+        ensures viewed { map view_named result.now ≡ view_names self.now }
+    {
+        &self.named[..at_most(self.count, MAX_NAMES)]
+    }
 }

@@ -1,6 +1,8 @@
 -- The four roles and the root's body, step by step.
 use mathlib.Core.Path.{◌≡◌, refl, sym, ap, ◌∙◌}
-use mathlib.Core.Option.{Option, none, some, bind}
+use Rattle.std.specs.declared.option.Option.{Option}
+use Rattle.std.specs.declared.option.Option.TheVariants.{None, Some}
+use Rattle.canonical_json.specs.Options.{bind}
 use mathlib.Core.Bool.{Bool, true, false}
 use mathlib.Core.List.{List}
 use Prim.Native.Nat.{ℕ}
@@ -23,28 +25,28 @@ use Rattle.root_file.specs.Body.{keyids_in, role_kept, Roles, roles_kept, keep_b
 -- ## true or false
 
 module _ (s : Bytes) (p : ℕ) where
-  pub truth-not : none ≡ truth_in (drop p s) → Takes s p is_truth (keep false tt)
+  pub truth-not : None ≡ truth_in (drop p s) → Takes s p is_truth (keep false tt)
   unfolding is_truth keep
-  truth-not e v h = sym (stop _ (sym (truth_takes s p none e v h)))
+  truth-not e v h = sym (stop _ (sym (truth_takes s p None e v h)))
 
-  pub truth-said : (b : Bool) → some b ≡ truth_in (drop p s) → Takes s p is_truth (keep true tt)
+  pub truth-said : (b : Bool) → Some b ≡ truth_in (drop p s) → Takes s p is_truth (keep true tt)
   unfolding is_truth keep
-  truth-said b e v h = sym (on _ (sym (truth_takes s p (some b) e v h)))
+  truth-said b e v h = sym (on _ (sym (truth_takes s p (Some b) e v h)))
 
 -- ## The four roles
 
 module _ (keys : List Key) (v : Json) (a : Bool) (r : Role) (e : keep a r ≡ must (bytes "root") (role_kept keys) v) where
-  pub no_root-role : a ≡ false → none ≡ roles_kept keys v
+  pub no_root-role : a ≡ false → None ≡ roles_kept keys v
   unfolding roles_kept bind keep
   no_root-role q = rw (← e, q)
 
   module _ (q : a ≡ true) (b : Bool) (t : Role) (f : keep b t ≡ must (bytes "timestamp") (role_kept keys) v) where
-    pub no-timestamp_role : b ≡ false → none ≡ roles_kept keys v
+    pub no-timestamp_role : b ≡ false → None ≡ roles_kept keys v
     unfolding roles_kept bind keep
     no-timestamp_role x = rw (← e, q, ← f, x)
 
     module _ (x : b ≡ true) (c : Bool) (n : Role) (g : keep c n ≡ must (bytes "snapshot") (role_kept keys) v) where
-      pub no-snapshot_role : c ≡ false → none ≡ roles_kept keys v
+      pub no-snapshot_role : c ≡ false → None ≡ roles_kept keys v
       unfolding roles_kept bind keep
       no-snapshot_role y = rw (← e, q, ← f, x, ← g, y)
 
@@ -58,23 +60,23 @@ module _ (keys : List Key) (v : Json) (a : Bool) (r : Role) (e : keep a r ≡ mu
 -- ## The body
 
 -- a role of the file, as it is kept
-role-then : (keys : List Key) (name : Bytes) (v : Json) → must name (role_kept keys) v ≡ (must name (role (keyids_in keys)) v >>= λ r. some (keep_role keys r))
+role-then : (keys : List Key) (name : Bytes) (v : Json) → must name (role_kept keys) v ≡ (must name (role (keyids_in keys)) v >>= λ r. Some (keep_role keys r))
 unfolding must role_kept bind
 role-then keys name v = go (field name v)
   where
-    go : (o : Option Json) → (o >>= λ w. role (keyids_in keys) w >>= λ r. some (keep_role keys r)) ≡ ((o >>= role (keyids_in keys)) >>= λ r. some (keep_role keys r))
-    go none = refl
-    go (some w) = refl
+    go : (o : Option Json) → (o >>= λ w. role (keyids_in keys) w >>= λ r. Some (keep_role keys r)) ≡ ((o >>= role (keyids_in keys)) >>= λ r. Some (keep_role keys r))
+    go None = refl
+    go (Some w) = refl
 
 abbrev kept : List Key → Role → Option Role
-kept keys r = some (keep_role keys r)
+kept keys r = Some (keep_role keys r)
 
 roles-then : (keys : List Key) (v : Json) → roles_kept keys v ≡
     ((must (bytes "root") (role (keyids_in keys)) v >>= kept keys) >>= λ root_role.
     (must (bytes "timestamp") (role (keyids_in keys)) v >>= kept keys) >>= λ timestamp_role.
     (must (bytes "snapshot") (role (keyids_in keys)) v >>= kept keys) >>= λ snapshot_role.
     (must (bytes "targets") (role (keyids_in keys)) v >>= kept keys) >>= λ targets_role.
-    some (record { root_role = root_role; timestamp_role = timestamp_role; snapshot_role = snapshot_role; targets_role = targets_role }))
+    Some (record { root_role = root_role; timestamp_role = timestamp_role; snapshot_role = snapshot_role; targets_role = targets_role }))
 unfolding roles_kept
 roles-then keys v =
     simp (role-then keys (bytes "root") v, role-then keys (bytes "timestamp") v, role-then keys (bytes "snapshot") v, role-then keys (bytes "targets") v)
@@ -82,16 +84,16 @@ roles-then keys v =
 -- the four roles of a root that was read, as they are kept
 four : (consistent : Bool) (keys : List Key) (a b c d : Option Role) →
     ((a >>= λ a. b >>= λ b. c >>= λ c. d >>= λ d.
-    some (record { consistent_snapshot = consistent; keys = keys; root_role = a; timestamp_role = b; snapshot_role = c; targets_role = d }))
-    >>= λ r. some (keep_body r))
+    Some (record { consistent_snapshot = consistent; keys = keys; root_role = a; timestamp_role = b; snapshot_role = c; targets_role = d }))
+    >>= λ r. Some (keep_body r))
     ≡ (((a >>= kept keys) >>= λ a. (b >>= kept keys) >>= λ b. (c >>= kept keys) >>= λ c. (d >>= kept keys) >>= λ d.
-    some (record { root_role = a; timestamp_role = b; snapshot_role = c; targets_role = d })) >>= λ roles. some (record { keys = keys; roles = roles }))
+    Some (record { root_role = a; timestamp_role = b; snapshot_role = c; targets_role = d })) >>= λ roles. Some (record { keys = keys; roles = roles }))
 unfolding bind keep_body
-four consistent keys none b c d = refl
-four consistent keys (some a) none c d = refl
-four consistent keys (some a) (some b) none d = refl
-four consistent keys (some a) (some b) (some c) none = refl
-four consistent keys (some a) (some b) (some c) (some d) = refl
+four consistent keys None b c d = refl
+four consistent keys (Some a) None c d = refl
+four consistent keys (Some a) (Some b) None d = refl
+four consistent keys (Some a) (Some b) (Some c) None = refl
+four consistent keys (Some a) (Some b) (Some c) (Some d) = refl
 
 -- what follows "consistent_snapshot" in `root`
 rest : Json → Bool → Option Root
@@ -102,10 +104,10 @@ rest v consistent =
     must (bytes "timestamp") (role (keyids_in keys)) roles >>= λ b.
     must (bytes "snapshot") (role (keyids_in keys)) roles >>= λ c.
     must (bytes "targets") (role (keyids_in keys)) roles >>= λ d.
-    some (record { consistent_snapshot = consistent; keys = keys; root_role = a; timestamp_role = b; snapshot_role = c; targets_role = d })
+    Some (record { consistent_snapshot = consistent; keys = keys; root_role = a; timestamp_role = b; snapshot_role = c; targets_role = d })
 
-rest-by : (v : Json) (consistent : Bool) → (rest v consistent >>= λ r. some (keep_body r)) ≡
-    (must (bytes "keys") forms.keys v >>= λ keys. must (bytes "roles") (roles_kept keys) v >>= λ roles. some (record { keys = keys; roles = roles }))
+rest-by : (v : Json) (consistent : Bool) → (rest v consistent >>= λ r. Some (keep_body r)) ≡
+    (must (bytes "keys") forms.keys v >>= λ keys. must (bytes "roles") (roles_kept keys) v >>= λ roles. Some (record { keys = keys; roles = roles }))
 unfolding rest must bind
 rest-by v consistent = table (must (bytes "keys") forms.keys v)
   where
@@ -115,45 +117,45 @@ rest-by v consistent = table (must (bytes "keys") forms.keys v)
         must (bytes "timestamp") (role (keyids_in keys)) roles >>= λ b.
         must (bytes "snapshot") (role (keyids_in keys)) roles >>= λ c.
         must (bytes "targets") (role (keyids_in keys)) roles >>= λ d.
-        some (record { consistent_snapshot = consistent; keys = keys; root_role = a; timestamp_role = b; snapshot_role = c; targets_role = d })
+        Some (record { consistent_snapshot = consistent; keys = keys; root_role = a; timestamp_role = b; snapshot_role = c; targets_role = d })
 
-    body : (keys : List Key) (o : Option Json) → ((o >>= inner keys) >>= λ r. some (keep_body r)) ≡ ((o >>= roles_kept keys) >>= λ roles. some (record { keys = keys; roles = roles }))
-    body keys none = refl
-    body keys (some w) =
+    body : (keys : List Key) (o : Option Json) → ((o >>= inner keys) >>= λ r. Some (keep_body r)) ≡ ((o >>= roles_kept keys) >>= λ roles. Some (record { keys = keys; roles = roles }))
+    body keys None = refl
+    body keys (Some w) =
         four consistent keys (must (bytes "root") (role (keyids_in keys)) w) (must (bytes "timestamp") (role (keyids_in keys)) w)
         (must (bytes "snapshot") (role (keyids_in keys)) w) (must (bytes "targets") (role (keyids_in keys)) w)
-        ∙ ap (λ (o : Option Roles). o >>= λ roles. some (record { keys = keys; roles = roles })) (sym (roles-then keys w))
+        ∙ ap (λ (o : Option Roles). o >>= λ roles. Some (record { keys = keys; roles = roles })) (sym (roles-then keys w))
 
-    table : (o : Option (List Key)) → ((o >>= λ keys. field (bytes "roles") v >>= inner keys) >>= λ r. some (keep_body r))
-        ≡ (o >>= λ keys. must (bytes "roles") (roles_kept keys) v >>= λ roles. some (record { keys = keys; roles = roles }))
-    table none = refl
-    table (some keys) = body keys (field (bytes "roles") v)
+    table : (o : Option (List Key)) → ((o >>= λ keys. field (bytes "roles") v >>= inner keys) >>= λ r. Some (keep_body r))
+        ≡ (o >>= λ keys. must (bytes "roles") (roles_kept keys) v >>= λ roles. Some (record { keys = keys; roles = roles }))
+    table None = refl
+    table (Some keys) = body keys (field (bytes "roles") v)
 
 root_by : (v : Json) → root_kept v ≡
     (must (bytes "consistent_snapshot") is_truth v >>= λ _.
     must (bytes "keys") forms.keys v >>= λ keys.
     must (bytes "roles") (roles_kept keys) v >>= λ roles.
-    some (record { keys = keys; roles = roles }))
+    Some (record { keys = keys; roles = roles }))
 unfolding root_kept root rest keyids_in is_truth must bind
 root_by v = go (field (bytes "consistent_snapshot") v)
   where
-    said : (o : Option Bool) → ((o >>= rest v) >>= λ r. some (keep_body r))
-        ≡ ((o >>= λ _. some (tt {0})) >>= λ _. must (bytes "keys") forms.keys v >>= λ keys. must (bytes "roles") (roles_kept keys) v >>= λ roles. some (record { keys = keys; roles = roles }))
-    said none = refl
-    said (some b) = rest-by v b
+    said : (o : Option Bool) → ((o >>= rest v) >>= λ r. Some (keep_body r))
+        ≡ ((o >>= λ _. Some (tt {0})) >>= λ _. must (bytes "keys") forms.keys v >>= λ keys. must (bytes "roles") (roles_kept keys) v >>= λ roles. Some (record { keys = keys; roles = roles }))
+    said None = refl
+    said (Some b) = rest-by v b
 
-    go : (o : Option Json) → (((o >>= truth) >>= rest v) >>= λ r. some (keep_body r))
-        ≡ ((o >>= is_truth) >>= λ _. must (bytes "keys") forms.keys v >>= λ keys. must (bytes "roles") (roles_kept keys) v >>= λ roles. some (record { keys = keys; roles = roles }))
-    go none = refl
-    go (some w) = said (truth w)
+    go : (o : Option Json) → (((o >>= truth) >>= rest v) >>= λ r. Some (keep_body r))
+        ≡ ((o >>= is_truth) >>= λ _. must (bytes "keys") forms.keys v >>= λ keys. must (bytes "roles") (roles_kept keys) v >>= λ roles. Some (record { keys = keys; roles = roles }))
+    go None = refl
+    go (Some w) = said (truth w)
 
 module _ (v : Json) (a : Bool) (e : keep a tt ≡ must (bytes "consistent_snapshot") is_truth v) where
-  pub no_truth : a ≡ false → none ≡ root_kept v
+  pub no_truth : a ≡ false → None ≡ root_kept v
   unfolding bind keep
   no_truth q = rw (root_by v, ← e, q)
 
   module _ (q : a ≡ true) (b : Bool) (keys : List Key) (f : keep b keys ≡ must (bytes "keys") forms.keys v) where
-    pub no_keys : b ≡ false → none ≡ root_kept v
+    pub no_keys : b ≡ false → None ≡ root_kept v
     unfolding bind keep
     no_keys x = rw (root_by v, ← e, q, ← f, x)
 

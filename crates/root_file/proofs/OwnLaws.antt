@@ -1,6 +1,8 @@
 -- The keyids of a key table, member by member.
 use mathlib.Core.Path.{◌≡◌, refl, ap, ◌∙◌}
-use mathlib.Core.Option.{Option, none, some, bind}
+use Rattle.std.specs.declared.option.Option.{Option}
+use Rattle.std.specs.declared.option.Option.TheVariants.{None, Some}
+use Rattle.canonical_json.specs.Options.{bind}
 use mathlib.Core.Bool.{Bool, true, false}
 use Prim.Native.Nat.{ℕ, ◌-◌}
 use lib.ListN.{take, drop}
@@ -12,8 +14,6 @@ use Rattle.canonical_json.specs.Read.{raw}
 use Rattle.canonical_json.specs.Fields.{members, field}
 use Rattle.lookup.specs.Place.{Stands, Finds, Tests, EndsAt}
 use Rattle.lookup.specs.Walk.{MembersLeft, members-end, MembersOf, FirstMember, NextMember}
-use Rattle.lookup.specs.declared.Found.{Found}
-use Rattle.lookup.specs.declared.Found.TheVariants.{Nothing, At}
 use Rattle.lookup.specs.declared.Member.{Member}
 use Rattle.lookup.specs.declared.Member.TheVariants as member
 use Rattle.lookup.proofs.StandsLaws.{text-to, end-found, end_is}
@@ -28,11 +28,11 @@ abbrev pub own : Bytes → ℕ → Json → Bool
 own s i v = same (raw (drop i s)) (keyid_of v)
 
 module _ (s : Bytes) (i j : ℕ) where
-  pub endless : (r : Bool) → EndsAt s j Nothing → Tests s j (own s i) r
+  pub endless : (r : Bool) → EndsAt s j None → Tests s j (own s i) r
   endless r w v h = absurd (end-found s j v h w refl)
 
   -- by the digest of what stands from its place to its end
-  pub by-digest : (e : ℕ) (r : Bool) → r ≡ same (raw (drop i s)) (hex_of (digest_of (take (e - j) (drop j s)))) → EndsAt s j (At e) → Tests s j (own s i) r
+  pub by-digest : (e : ℕ) (r : Bool) → r ≡ same (raw (drop i s)) (hex_of (digest_of (take (e - j) (drop j s)))) → EndsAt s j (Some e) → Tests s j (own s i) r
   unfolding keyid_of
   by-digest e r q w v h = q ∙ ap (λ (t : Bytes). same (raw (drop i s)) (hex_of (digest_of t))) (text-to s j v h e (end_is s j v h w e refl))
 
@@ -48,8 +48,8 @@ unfolding own_table
 own_first s p r w v h = go (members v) (w.means v h)
   where
     go : (o : Option Members) → MembersOf s h.rest r o → OwnLeft s (own_table o) r
-    go none q = rw q (no_table_lem refl)
-    go (some ms) l = left ms l refl
+    go None q = rw q (no_table_lem refl)
+    go (Some ms) l = left ms l refl
 
 module _ {s : Bytes} {all : Bool} where
   pub own-none : OwnLeft s all member.NoObject → true ≡ all
@@ -74,13 +74,13 @@ module _ {s : Bytes} {all : Bool} where
 
 -- ## The table of a member
 
-module _ (s : Bytes) (p : ℕ) (k : Bytes) (found : Found) (w : Finds s p (field k) found) where
-  pub table_none : found ≡ Nothing → Tests s p (λ v. own_table (must k members v)) true
+module _ (s : Bytes) (p : ℕ) (k : Bytes) (found : Option ℕ) (w : Finds s p (field k) found) where
+  pub table_none : found ≡ None → Tests s p (λ v. own_table (must k members v)) true
   unfolding must own_table bind
-  table_none q v h = let z : field k v ≡ none = rw q at (w v h) in rw z
+  table_none q v h = let z : field k v ≡ None = rw q at (w v h) in rw z
 
-  pub table_at : (x : ℕ) (r : Bool) → found ≡ At x → Tests s x (λ v. own_table (members v)) r → Tests s p (λ v. own_table (must k members v)) r
+  pub table_at : (x : ℕ) (r : Bool) → found ≡ Some x → Tests s x (λ v. own_table (members v)) r → Tests s p (λ v. own_table (must k members v)) r
   unfolding must bind
   table_at x r q t v h =
-      let z : (u : Json) × (field k v ≡ some u) × Stands s x u = rw q at (w v h) in
+      let z : (u : Json) × (field k v ≡ Some u) × Stands s x u = rw q at (w v h) in
       rw z.1 (t z.0 z.2)

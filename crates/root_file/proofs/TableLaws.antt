@@ -1,6 +1,8 @@
 -- The key table: its public values from a place on, and the table that the file's keys make.
 use mathlib.Core.Path.{◌≡◌, refl}
-use mathlib.Core.Option.{Option, none, some, bind}
+use Rattle.std.specs.declared.option.Option.{Option}
+use Rattle.std.specs.declared.option.Option.TheVariants.{None, Some}
+use Rattle.canonical_json.specs.Options.{bind}
 use mathlib.Core.Bool.{Bool, true, false, ◌&&◌}
 use mathlib.Core.List.{List, [], ◌∷◌, map}
 use Prim.Native.Nat.{ℕ, zero, suc, ◌+◌, ◌<◌, ◌≤◌, min}
@@ -86,16 +88,16 @@ unfolding keys each_member bind
 keys-by v = go (members v)
   where
     kept : (o : Option Members) → (o >>= λ ms. each_named key ms >>= distinct) ≡ ((o >>= each_named key) >>= distinct)
-    kept none = refl
-    kept (some ms) = refl
+    kept None = refl
+    kept (Some ms) = refl
 
     go : (o : Option Members) → (o >>= λ ms. keep (leb 1 (count ms) && leb (count ms) max_keys) ms >>= λ ms. each_named key ms >>= distinct)
         ≡ ((o >>= λ ms. keep (leb 1 (count ms) && leb (count ms) max_keys) ms >>= each_named key) >>= distinct)
-    go none = refl
-    go (some ms) = kept (keep (leb 1 (count ms) && leb (count ms) max_keys) ms)
+    go None = refl
+    go (Some ms) = kept (keep (leb 1 (count ms) && leb (count ms) max_keys) ms)
 
 module _ (v : Json) (ok : Bool) (ks : List rules.Key) (e : keep ok ks ≡ each_member 1 max_keys key v) where
-  pub no_table_lem : ok ≡ false → none ≡ keys v
+  pub no_table_lem : ok ≡ false → None ≡ keys v
   unfolding bind keep
   no_table_lem q = rw (keys-by v, ← e, q)
 

@@ -1,5 +1,6 @@
 -- What is kept of a root's body (rules, `root` and `keep_root`), part by part as it is read.
-use Rattle.std.proofs.Math.Option.{Option, some}
+use Rattle.std.specs.declared.option.Option.{Option}
+use Rattle.std.specs.declared.option.Option.TheVariants.{Some}
 use Rattle.std.specs.Prelude.{List, map, Bool, ◌&&◌, ℕ, length}
 use Rattle.base.specs.Bytes.{Bytes, bytes}
 use Rattle.canonical_json.specs.Json.{Json}
@@ -33,7 +34,7 @@ naming keys v =
 
 -- a role, as it is kept
 unfoldable pub role_kept : List Key → Json → Option Role
-role_kept keys v = role (keyids_in keys) v >>= λ r. some (keep_role keys r)
+role_kept keys v = role (keyids_in keys) v >>= λ r. Some (keep_role keys r)
 
 -- the four roles
 pub record Roles : Type 0 where
@@ -48,7 +49,7 @@ roles_kept keys v =
     must (bytes "timestamp") (role_kept keys) v >>= λ timestamp_role.
     must (bytes "snapshot") (role_kept keys) v >>= λ snapshot_role.
     must (bytes "targets") (role_kept keys) v >>= λ targets_role.
-    some (record { root_role = root_role; timestamp_role = timestamp_role; snapshot_role = snapshot_role; targets_role = targets_role })
+    Some (record { root_role = root_role; timestamp_role = timestamp_role; snapshot_role = snapshot_role; targets_role = targets_role })
 
 pub record Body : Type 0 where
   pub keys : List Key
@@ -67,8 +68,8 @@ keep_body r =
     }
 
 unfoldable pub root_kept : Json → Option Body
-root_kept v = root v >>= λ r. some (keep_body r)
+root_kept v = root v >>= λ r. Some (keep_body r)
 
 -- "true or false", whichever
 unfoldable pub is_truth : Json → Option (Unit {0})
-is_truth v = truth v >>= λ _. some tt
+is_truth v = truth v >>= λ _. Some tt

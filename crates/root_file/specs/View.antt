@@ -1,5 +1,5 @@
 -- What the answers stand for: nothing where they are not `ok`.
-use Rattle.std.proofs.Math.Option.{Option}
+use Rattle.std.specs.declared.option.Option.{Option}
 use Rattle.std.specs.Prelude.{List, ℕ, ◌-◌, min}
 use Rattle.base.specs.Bytes.{Bytes}
 use Rattle.base.specs.Window.{run}

@@ -2,12 +2,10 @@
 #![tactic(auto)]
 
 ghost use Rattle.std.specs.Prelude.{◌≡◌, false, drop};
-ghost use Rattle.std.proofs.Math.Option.{some};
 ghost use Rattle.base.specs.Bytes.{bytes, same};
 ghost use Rattle.canonical_json.specs.Read.{raw};
 ghost use Rattle.canonical_json.specs.Fields.{members, keep};
 ghost use Rattle.lookup.specs.Place.{Takes, Tests, PlaceAfter, EndsAt, KnownEnd, FoundEnd};
-ghost use Rattle.lookup.specs.declared.Found.TheVariants.{Nothing};
 ghost use Rattle.rules.specs.Limits.{max_keys, key_size};
 ghost use Rattle.rules.specs.Take.{must, hex};
 ghost use Rattle.rules.specs.Forms.{is_in, different, key as key_form, keys as keys_form, keyid_of, own_table};
@@ -32,11 +30,11 @@ use records::{Entries, Id, Key, KeyTable, Role, Root};
 pub struct KeyAt {
     pub ok: bool,
     pub key: Key,
-    pub end: Found,
+    pub end: Option<usize>,
 }
 
 fn no_key() -> KeyAt
-    ensures { (result.ok ≡ false) × (result.end ≡ Nothing) }
+    ensures { (result.ok ≡ false) × (result.end ≡ None) }
 {
     let zeros = Id { bytes: [0u8; 32] };
     KeyAt {
@@ -45,22 +43,22 @@ fn no_key() -> KeyAt
             keyid: zeros,
             public: zeros,
         },
-        end: Found::Nothing,
+        end: None,
     }
 }
 
 // "a keyval whose public is 64 lower-case hex".
-fn public_field(s: &[u8], found: Found) -> IdAt
+fn public_field(s: &[u8], found: Option<usize>) -> IdAt
     ensures { TakesMust s.now found (must (bytes "public") (hex key_size)) (view_id_at result) }
 {
     match found {
-        Found::Nothing => {
+        None => {
             return IdAt {
                 ok: false,
                 id: Id { bytes: [0u8; 32] },
             };
         }
-        Found::At(x) => {
+        Some(x) => {
             return forms::id_field(s, lookup::find_member(s, x, b"public"));
         }
     }
@@ -102,11 +100,11 @@ pub fn key_at(s: &[u8], name: usize, value: usize) -> KeyAt
 pub struct KeysAt {
     pub ok: bool,
     pub table: KeyTable,
-    pub end: Found,
+    pub end: Option<usize>,
 }
 
 fn no_keys() -> KeysAt
-    ensures { (result.ok ≡ false) × (result.end ≡ Nothing) }
+    ensures { (result.ok ≡ false) × (result.end ≡ None) }
 {
     let blank = no_key();
     let key = blank.key;
@@ -116,7 +114,7 @@ fn no_keys() -> KeysAt
             count: 0,
             keys: [key; records::MAX_KEYS],
         },
-        end: Found::Nothing,
+        end: None,
     }
 }
 
@@ -155,7 +153,7 @@ fn table_at(s: &[u8], at: usize) -> KeysAt
                 return KeysAt {
                     ok: true,
                     table: KeyTable { count: n, keys },
-                    end: Found::At(e),
+                    end: Some(e),
                 };
             }
         }
@@ -208,14 +206,14 @@ pub fn keys_at(s: &[u8], at: usize) -> KeysAt
     KeysAt { ok, table, end }
 }
 
-fn keys_field(s: &[u8], found: Found) -> KeysAt
+fn keys_field(s: &[u8], found: Option<usize>) -> KeysAt
     ensures { TakesMust s.now found keys_form (view_keys_at result) × FoundEnd s.now found result.end }
 {
     match found {
-        Found::Nothing => {
+        None => {
             return no_keys();
         }
-        Found::At(x) => {
+        Some(x) => {
             return keys_at(s, x);
         }
     }
@@ -223,15 +221,15 @@ fn keys_field(s: &[u8], found: Found) -> KeysAt
 
 // Whether the member whose name begins at `name` and whose value stands from `value` to `end` has its key's keyid: "the hex digest of the canonical
 // text of its key".
-fn has_own_keyid(s: &[u8], name: usize, value: usize, end: Found) -> bool
+fn has_own_keyid(s: &[u8], name: usize, value: usize, end: Option<usize>) -> bool
     requires { PlaceAfter s.now value end }
     ensures { EndsAt s.now value end → Tests s.now value (λ v. same (raw (drop name s.now)) (keyid_of v)) result }
 {
     match end {
-        Found::Nothing => {
+        None => {
             return false;
         }
-        Found::At(e) => {
+        Some(e) => {
             let keyid = sha256::hex_digest(&s[value..e]);
             return lookup::text_is(s, name, &keyid);
         }
@@ -262,14 +260,14 @@ pub fn has_own_keyids(s: &[u8], at: usize) -> bool
     }
 }
 
-fn keyids_field(s: &[u8], found: Found) -> bool
+fn keyids_field(s: &[u8], found: Option<usize>) -> bool
     ensures { TestsTable s.now found result }
 {
     match found {
-        Found::Nothing => {
+        None => {
             return true;
         }
-        Found::At(x) => {
+        Some(x) => {
             return has_own_keyids(s, x);
         }
     }
@@ -283,17 +281,17 @@ struct NamingAt {
     ok: bool,
     keys: u16,
     count: usize,
-    end: Found,
+    end: Option<usize>,
 }
 
 fn no_naming() -> NamingAt
-    ensures { (result.ok ≡ false) × (result.end ≡ Nothing) }
+    ensures { (result.ok ≡ false) × (result.end ≡ None) }
 {
     NamingAt {
         ok: false,
         keys: 0,
         count: 0,
-        end: Found::Nothing,
+        end: None,
     }
 }
 
@@ -336,7 +334,7 @@ fn naming_at(s: &[u8], at: usize, table: KeyTable) -> NamingAt
                     ok: true,
                     keys,
                     count: n,
-                    end: Found::At(past),
+                    end: Some(past),
                 };
             }
         }
@@ -344,14 +342,14 @@ fn naming_at(s: &[u8], at: usize, table: KeyTable) -> NamingAt
 }
 
 // "keyids".
-fn naming_field(s: &[u8], found: Found, table: KeyTable) -> NamingAt
+fn naming_field(s: &[u8], found: Option<usize>, table: KeyTable) -> NamingAt
     ensures { TakesMust s.now found (naming (view_table table)) (view_naming_at table result) × FoundEnd s.now found result.end }
 {
     match found {
-        Found::Nothing => {
+        None => {
             return no_naming();
         }
-        Found::At(x) => {
+        Some(x) => {
             return naming_at(s, x, table);
         }
     }
@@ -387,10 +385,10 @@ pub fn role_at(s: &[u8], at: usize, table: KeyTable) -> RoleAt
     let end = named.end;
     let second = lookup::find_member_by(s, at, b"threshold", lookup::extent_of(found, end));
     match forms::number_field(s, second, 1, named.count as u64) {
-        Number::No => {
+        None => {
             return no_role();
         }
-        Number::Is(threshold) => {
+        Some(threshold) => {
             return RoleAt {
                 ok: true,
                 role: Role {
@@ -402,14 +400,14 @@ pub fn role_at(s: &[u8], at: usize, table: KeyTable) -> RoleAt
     }
 }
 
-fn role_field(s: &[u8], found: Found, table: KeyTable) -> RoleAt
+fn role_field(s: &[u8], found: Option<usize>, table: KeyTable) -> RoleAt
     ensures { TakesMust s.now found (role_kept (view_table table)) (view_role_at table result) }
 {
     match found {
-        Found::Nothing => {
+        None => {
             return no_role();
         }
-        Found::At(x) => {
+        Some(x) => {
             return role_at(s, x, table);
         }
     }
@@ -423,11 +421,11 @@ struct RolesAt {
     timestamp: Role,
     snapshot: Role,
     targets: Role,
-    end: Found,
+    end: Option<usize>,
 }
 
 fn no_roles() -> RolesAt
-    ensures { (result.ok ≡ false) × (result.end ≡ Nothing) }
+    ensures { (result.ok ≡ false) × (result.end ≡ None) }
 {
     let role = Role {
         keys: 0,
@@ -439,7 +437,7 @@ fn no_roles() -> RolesAt
         timestamp: role,
         snapshot: role,
         targets: role,
-        end: Found::Nothing,
+        end: None,
     }
 }
 
@@ -480,14 +478,14 @@ fn roles_at(s: &[u8], at: usize, table: KeyTable) -> RolesAt
     }
 }
 
-fn roles_field(s: &[u8], found: Found, table: KeyTable) -> RolesAt
+fn roles_field(s: &[u8], found: Option<usize>, table: KeyTable) -> RolesAt
     ensures { TakesMust s.now found (roles_kept (view_table table)) (view_roles_at table result) × FoundEnd s.now found result.end }
 {
     match found {
-        Found::Nothing => {
+        None => {
             return no_roles();
         }
-        Found::At(x) => {
+        Some(x) => {
             return roles_at(s, x, table);
         }
     }
@@ -496,18 +494,18 @@ fn roles_field(s: &[u8], found: Found, table: KeyTable) -> RolesAt
 // ---- The root
 
 // "consistent_snapshot true or false": which of the two is not kept.
-fn has_snapshot_rule(s: &[u8], found: Found) -> bool
+fn has_snapshot_rule(s: &[u8], found: Option<usize>) -> bool
     ensures { TakesMust s.now found is_truth (keep result tt) }
 {
     match found {
-        Found::Nothing => {
+        None => {
             return false;
         }
-        Found::At(x) => match lookup::truth_at(s, x) {
-            Truth::No => {
+        Some(x) => match lookup::truth_at(s, x) {
+            None => {
                 return false;
             }
-            Truth::Is(_) => {
+            Some(_) => {
                 return true;
             }
         },
@@ -523,12 +521,12 @@ pub struct RootAt {
     pub timestamp: Role,
     pub snapshot: Role,
     pub targets: Role,
-    pub roles: Found,
-    pub end: Found,
+    pub roles: Option<usize>,
+    pub end: Option<usize>,
 }
 
 fn no_root() -> RootAt
-    ensures { (result.ok ≡ false) × (result.roles ≡ Nothing) }
+    ensures { (result.ok ≡ false) × (result.roles ≡ None) }
 {
     let keys = no_keys();
     let table = keys.table;
@@ -543,8 +541,8 @@ fn no_root() -> RootAt
         timestamp: role,
         snapshot: role,
         targets: role,
-        roles: Found::Nothing,
-        end: Found::Nothing,
+        roles: None,
+        end: None,
     }
 }
 
@@ -613,7 +611,7 @@ fn refused(answer: u8) -> RootRead
 
 // 3 before 16 and 16 before 4: the keyids and the spec_version are asked for when everything else was read.
 pub fn read_root(file: &[u8]) -> RootRead
-    ensures { view_root_read result ≡ some (root_in file.now) }
+    ensures { view_root_read result ≡ Some (root_in file.now) }
 {
     let opened = envelope::open_envelope(file);
     if opened.answer != 0 {

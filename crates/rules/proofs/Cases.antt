@@ -2,7 +2,8 @@
 -- answer.
 use mathlib.Core.Path.{◌≡◌, refl}
 use mathlib.Core.List.{List, [], ◌∷◌, map}
-use mathlib.Core.Option.{Option, none, some}
+use Rattle.std.specs.declared.option.Option.{Option}
+use Rattle.std.specs.declared.option.Option.TheVariants.{None, Some}
 use Prim.Native.Nat.{ℕ}
 use Prim.Native.String.{String}
 use lib.IntN.{ℤ, pos, neg_ℤ}
@@ -41,8 +42,8 @@ date t = a_date (date_of (bytes t))
 
 -- By the law `canonical_exactly` a text has a value exactly where it is canonical.
 abbrev pub is_text : Option Json → Value
-is_text none = not_canonical
-is_text (some v) = canonical
+is_text None = not_canonical
+is_text (Some v) = canonical
 
 abbrev pub text : String → Value
 text t = is_text (parsed (bytes t))
@@ -58,12 +59,12 @@ both = record { keyids = a ∷ b ∷ []; threshold = 1 }
 
 abbrev pub table : List (Case Value)
 table =
-    date "1985-10-21T01:21:00Z" gives a_date (some (pos 498705660))
-    ∷ date "2030-01-01T00:00:00Z" gives a_date (some (pos 1893456000))
-    ∷ date "1969-12-31T23:59:59Z" gives a_date (some (neg_ℤ (pos 1)))
-    ∷ date "2000-02-29T00:00:00Z" gives a_date (some (pos 951782400))
-    ∷ date "1900-03-01T00:00:00Z" gives a_date (some (neg_ℤ (pos 2203891200)))
-    ∷ date "1900-02-29T00:00:00Z" gives a_date none
+    date "1985-10-21T01:21:00Z" gives a_date (Some (pos 498705660))
+    ∷ date "2030-01-01T00:00:00Z" gives a_date (Some (pos 1893456000))
+    ∷ date "1969-12-31T23:59:59Z" gives a_date (Some (neg_ℤ (pos 1)))
+    ∷ date "2000-02-29T00:00:00Z" gives a_date (Some (pos 951782400))
+    ∷ date "1900-03-01T00:00:00Z" gives a_date (Some (neg_ℤ (pos 2203891200)))
+    ∷ date "1900-02-29T00:00:00Z" gives a_date None
     ∷ text "{\"a\":1,\"a!\":2}" gives canonical
     ∷ text "{\"a\":1,\"a\":2}" gives not_canonical
     ∷ text "[-0]" gives not_canonical

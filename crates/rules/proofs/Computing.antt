@@ -1,5 +1,5 @@
 -- Names for groups of definitions: where one of these unfolds, all of its group does, and cases of it compute.
-use mathlib.Core.Option.{bind}
+use Rattle.canonical_json.specs.Options.{bind}
 use Rattle.base.specs.Bytes.{same, less}
 use Rattle.base.specs.Hex.{digit_of, all_hex, is_hex, undo}
 use Rattle.date.specs.Calendar.{fits, has_form, date_of, civil_time, time_of, epoch, second_number, day_number, years_before, first_months, expired, earlier}

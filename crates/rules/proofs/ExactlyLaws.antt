@@ -1,6 +1,6 @@
 -- Demand 2 for the written rules: each call answers 0 exactly when all of its conditions hold, and what it then gives.
 use mathlib.Core.Path.{◌≡◌, refl, ap, ◌∙◌}
-use mathlib.Core.Option.{some}
+use Rattle.std.specs.declared.option.Option.TheVariants.{Some}
 use mathlib.Core.Logic.{◌↔◌}
 use mathlib.Core.Bool.{Bool, true, false}
 use mathlib.Core.List.Memᴰ
@@ -34,7 +34,7 @@ use Rattle.rules.proofs.NextLaws.{next-none, next-trusting, says_what}
 -- ## Root
 
 -- the roles of a root that was read name no key twice
-differ : (s : State) {r : Root} → RootRead s → s.root ≡ some r
+differ : (s : State) {r : Root} → RootRead s → s.root ≡ Some r
     → Different r.root_role.keyids × Different r.timestamp_role.keyids × Different r.snapshot_role.keyids × Different r.targets_role.keyids
 differ s {r} read e = let w = read r e in root-different w.0 r w.1 w.2
 
@@ -60,7 +60,7 @@ module _ (s : State) (o : RootOffer) where
       )
 
   -- a next root would have a version above all that are read
-  pub no-next-root : RootRead s → (held : Root) → s.root ≡ some held → held.version ≡ max_version → ¬ (answer s (new_root o) ≡ 0)
+  pub no-next-root : RootRead s → (held : Root) → s.root ≡ Some held → held.version ≡ max_version → ¬ (answer s (new_root o) ≡ 0)
   no-next-root read held e top a =
       let g = root-good read a in
       let new : IsVersion g.0.version = root-versions o.file g.0 g.1.entries g.1.reads _ (Memᴰ.head refl) in
@@ -79,7 +79,7 @@ module _ (s : State) (o : RootOffer) where
       & rw g.is_held ((version-exactly _ _).1 g.version)
       & tt)
 
-  pub root-offered : (r : Root) → RootGood s o r → offered (new_root o) ≡ some (a_root r)
+  pub root-offered : (r : Root) → RootGood s o r → offered (new_root o) ≡ Some (a_root r)
   unfolding offered
   root-offered r g = says_what a_root g.reads
 
@@ -132,7 +132,7 @@ module _ (s : State) (o : FileOffer) where
       & (fresh-exactly _ _).1 g.fresh
       & tt)
 
-  pub timestamp-offered : (t : Timestamp) → TimestampGood s o t → offered (new_timestamp o) ≡ some (a_timestamp t)
+  pub timestamp-offered : (t : Timestamp) → TimestampGood s o t → offered (new_timestamp o) ≡ Some (a_timestamp t)
   unfolding offered
   timestamp-offered t g = says_what a_timestamp g.reads
 
@@ -196,7 +196,7 @@ module _ (s : State) (o : FileOffer) where
       & (fresh-exactly _ _).1 g.fresh
       & tt)
 
-  pub snapshot-offered : (n : Snapshot) → SnapshotGood s o n → offered (new_snapshot o) ≡ some (a_snapshot n)
+  pub snapshot-offered : (n : Snapshot) → SnapshotGood s o n → offered (new_snapshot o) ≡ Some (a_snapshot n)
   unfolding offered
   snapshot-offered n g = says_what a_snapshot g.reads
 
@@ -270,7 +270,7 @@ module _ (s : State) (o : FileOffer) where
       & (fresh-exactly _ _).1 g.fresh
       & tt)
 
-  pub targets-offered : (f : File (List Image)) → TargetsGood s o f → offered (new_targets o) ≡ some (a_targets (keep_targets o.file f))
+  pub targets-offered : (f : File (List Image)) → TargetsGood s o f → offered (new_targets o) ≡ Some (a_targets (keep_targets o.file f))
   unfolding offered
   targets-offered f g = says_what (λ x. a_targets (keep_targets o.file x)) g.reads
 

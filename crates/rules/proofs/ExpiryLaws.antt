@@ -2,7 +2,8 @@
 use mathlib.Core.Path.{◌≡◌, refl, sym, ◌∙◌, subst}
 use mathlib.Core.Logic.{◌⊎◌, inl, inr}
 use mathlib.Core.Bool.{Bool, true, false}
-use mathlib.Core.Option.{Option, some}
+use Rattle.std.specs.declared.option.Option.{Option}
+use Rattle.std.specs.declared.option.Option.TheVariants.{Some}
 use mathlib.Core.List.{List}
 use Prim.Native.Nat.{ℕ, zero, suc, ◌≤◌, ◌<◌}
 use native.Mathlib.Omega.{arith}
@@ -28,7 +29,7 @@ module _ (s : State) where
   IsFresh x = ¬ Expired (expires_of x) s.start
 
   -- the record that is held is the one that the call leans on, and the file offered the one that was judged
-  same-fresh : {A : Type 0} (item : A → Item) {o : Option A} {a b : A} → o ≡ some a → IsFresh (item a) → o ≡ some b → IsFresh (item b)
+  same-fresh : {A : Type 0} (item : A → Item) {o : Option A} {a b : A} → o ≡ Some a → IsFresh (item a) → o ≡ Some b → IsFresh (item b)
   same-fresh item e f h = subst (λ x. IsFresh (item x)) (one-held e h) f
 
   root-fresh : LeansOnRoot s → (x : Item) → IsHeld s x → rank x ≤ 1 → IsFresh x
@@ -90,7 +91,7 @@ module _ (s : State) where
   abbrev FindsOne : Call → Type 0
   FindsOne c = (x : Item) × FindsExpired s c x
 
-  held-past : {A : Type 0} {c : Call} (item : A → Item) (part : Option A) → ((a : A) → part ≡ some a → IsHeld s (item a))
+  held-past : {A : Type 0} {c : Call} (item : A → Item) (part : Option A) → ((a : A) → part ≡ Some a → IsHeld s (item a))
       → ((a : A) → rank (item a) ≤ leans_up_to c) → of_held part (λ a. expired (expires_of (item a)) s.start) ≡ true → FindsOne c
   held-past item part held l e =
       let w = held-true part _ e in

@@ -2,7 +2,8 @@
 -- texts have one digest.
 use mathlib.Core.Path.{◌≡◌, refl, sym, ap, ◌∙◌, subst}
 use mathlib.Core.Logic.{◌⊎◌, inl, inr, ⊎_elim}
-use mathlib.Core.Option.{bind, some}
+use Rattle.std.specs.declared.option.Option.TheVariants.{Some}
+use Rattle.canonical_json.specs.Options.{bind}
 use mathlib.Core.Bool.{Bool, true, false, ◌&&◌}
 use mathlib.Core.List.Memᴰ
 use mathlib.Core.List.{List, [], map, Memᴰ}
@@ -30,7 +31,7 @@ use Rattle.rules.proofs.OptionLaws.{some_is, had, kept-is}
 use Rattle.rules.proofs.ReadingLaws.{parsed-exactly, role-file, body_is, kept-says}
 use Rattle.rules.proofs.RootLaws.{ValidSome, members-valid, field-valid, signed-valid, key-hex}
 
-own_key : (n : Bytes) (v : Json) (k : Key) (d : ℕ) → Valid v d → key n v ≡ some k → same n (keyid_of v) ≡ true → OwnKeyid k
+own_key : (n : Bytes) (v : Json) (k : Key) (d : ℕ) → Valid v d → key n v ≡ Some k → same n (keyid_of v) ≡ true → OwnKeyid k
 unfolding keyid_of
 own_key n v k d h e o =
     let n-is : n ≡ hex_of (digest_of (put v [])) = same_true n (hex_of (digest_of (put v []))) o in
@@ -49,8 +50,8 @@ AllOwn ks = (k : Key) → Memᴰ k ks → OwnKeyid k
 
 -- a line, and those after it
 own_line : (n : Bytes) (v : Json) (ms : Members) (d : ℕ) → Valid v d
-    → ((ks : List Key) → each_named key ms ≡ some ks → own_keyids ms ≡ true → AllOwn ks)
-    → (ks : List Key) → each_named key (mcons n v ms) ≡ some ks → own_keyids (mcons n v ms) ≡ true → AllOwn ks
+    → ((ks : List Key) → each_named key ms ≡ Some ks → own_keyids ms ≡ true → AllOwn ks)
+    → (ks : List Key) → each_named key (mcons n v ms) ≡ Some ks → own_keyids (mcons n v ms) ≡ true → AllOwn ks
 unfolding each_named own_keyids
 own_line n v ms d h after ks e o k m =
     let x = had _ _ e in
@@ -59,21 +60,21 @@ own_line n v ms d h after ks e o k m =
     ⊎_elim (λ q. subst OwnKeyid (sym q) (own_key n v x.0 d h x.1 w.0)) (λ i. after more.0 more.1 w.1 k i)
     (Memᴰ.cases_cons (subst (Memᴰ k) (sym (some_is more.2)) m))
 
-none-own : (ks : List Key) → each_named key mnil ≡ some ks → AllOwn ks
+none-own : (ks : List Key) → each_named key mnil ≡ Some ks → AllOwn ks
 unfolding each_named
 none-own ks e k m = elim (subst (Memᴰ k) (sym (some_is e)) m) [ ]
 
-own-more : (p : Bytes) (ms : Members) (d : ℕ) → ValidMore p ms d → (ks : List Key) → each_named key ms ≡ some ks → own_keyids ms ≡ true → AllOwn ks
+own-more : (p : Bytes) (ms : Members) (d : ℕ) → ValidMore p ms d → (ks : List Key) → each_named key ms ≡ Some ks → own_keyids ms ≡ true → AllOwn ks
 unfolding Valid
 own-more p mnil d h ks e o = none-own ks e
 own-more p (mcons n v ms) d h ks e o = own_line n v ms d h.2 (own-more n ms d h.3) ks e o
 
-own_keys_lem : (ms : Members) (d : ℕ) → ValidMembers ms d → (ks : List Key) → each_named key ms ≡ some ks → own_keyids ms ≡ true → AllOwn ks
+own_keys_lem : (ms : Members) (d : ℕ) → ValidMembers ms d → (ks : List Key) → each_named key ms ≡ Some ks → own_keyids ms ≡ true → AllOwn ks
 unfolding Valid
 own_keys_lem mnil d h ks e o = none-own ks e
 own_keys_lem (mcons n v ms) d h ks e o = own_line n v ms d h.1 (own-more n ms d h.2) ks e o
 
-own-table : (v : Json) (ks : List Key) → ValidSome v → must (bytes "keys") keys v ≡ some ks → root_keyids v ≡ true → AllOwn ks
+own-table : (v : Json) (ks : List Key) → ValidSome v → must (bytes "keys") keys v ≡ Some ks → root_keyids v ≡ true → AllOwn ks
 unfolding must keys root_keyids own_table bind
 own-table v ks h e o =
     let w = had (field (bytes "keys") v) keys e in
@@ -88,7 +89,7 @@ own-table v ks h e o =
     (own_keys_lem limited.0 m.0 (subst (λ (x : Members). ValidMembers x m.0) same-members m.1) each.0 each.1
     (subst (λ (x : Members). own_keyids x ≡ true) same-members own))
 
-table_of : (v : Json) (r : records.Root) → root v ≡ some r → must (bytes "keys") keys v ≡ some r.keys
+table_of : (v : Json) (r : records.Root) → root v ≡ Some r → must (bytes "keys") keys v ≡ Some r.keys
 unfolding root
 table_of v r e =
     let consistent = had _ _ e in
@@ -98,7 +99,7 @@ table_of v r e =
     let of_timestamp = had _ _ of_root.2 in
     let of_snapshot = had _ _ of_timestamp.2 in
     let of_targets = had _ _ of_snapshot.2 in
-    table.1 ∙ ap (λ (x : records.Root). some x.keys) (some_is of_targets.2)
+    table.1 ∙ ap (λ (x : records.Root). Some x.keys) (some_is of_targets.2)
 
 pub root-keyids : (file : Bytes) (r : Root) (es : List Bytes) → root_in file ≡ says r es → (k : Key) → Memᴰ k r.keys → OwnKeyid k
 unfolding root_in read_root keep_root

@@ -2,7 +2,8 @@
 -- back is the signed value's text in the caller's file.
 use mathlib.Core.Path.{◌≡◌, refl, sym, ap, ◌∙◌, subst}
 use mathlib.Core.Logic.{◌↔◌}
-use mathlib.Core.Option.{Option, none, some}
+use Rattle.std.specs.declared.option.Option.{Option}
+use Rattle.std.specs.declared.option.Option.TheVariants.{None, Some}
 use mathlib.Core.Bool.{Bool, true, false, cond}
 use mathlib.Core.List.{List, [], ◌∷◌, ◌++◌, append_assoc}
 use Prim.Native.Nat.{ℕ, ◌+◌, ◌≤◌, ◌<◌}
@@ -32,22 +33,22 @@ use Rattle.rules.proofs.OptionLaws.{none-not-some, some_is, had, not-absent}
 
 -- ## Text
 
-whole_is : (g : Got Json) (v : Json) → whole g ≡ some v → g ≡ got v []
+whole_is : (g : Got Json) (v : Json) → whole g ≡ Some v → g ≡ got v []
 unfolding whole
 whole_is bad v e = none-not-some e
 whole_is (got w []) v e = rw (some_is e)
 whole_is (got w (b ∷ r)) v e = none-not-some e
 
-pub parsed-exactly : (file : Bytes) (v : Json) → (parsed file ≡ some v) ↔ (Valid v max_depth × (file ≡ put v []))
+pub parsed-exactly : (file : Bytes) (v : Json) → (parsed file ≡ Some v) ↔ (Valid v max_depth × (file ≡ put v []))
 unfolding parsed whole
 parsed-exactly file v = (there, back)
   where
-    there : whole (read max_depth file) ≡ some v → Valid v max_depth × (file ≡ put v [])
+    there : whole (read max_depth file) ≡ Some v → Valid v max_depth × (file ≡ put v [])
     there e =
         let w : Wrote max_depth file v [] = says_of (rw (whole_is (read max_depth file) v e) at (read_sound max_depth file)) in
         (w.1, w.0)
 
-    back : Valid v max_depth × (file ≡ put v []) → whole (read max_depth file) ≡ some v
+    back : Valid v max_depth × (file ≡ put v []) → whole (read max_depth file) ≡ Some v
     back w = rw (w.1, complete v max_depth [] w.0 tt)
 
 pub canonical_exactly : (file : Bytes) → (absent (parsed file) ≡ false) ↔ Canonical max_depth file
@@ -79,7 +80,7 @@ refused-not-says e = never (cc)
 pub record ValueOf {A : Type 0} (f : Json → Read A) (file : Bytes) (a : A) (es : List Bytes) : Type 0 where
   pub value : Json
   pub fits : length file ≤ max_file
-  pub text : parsed file ≡ some value
+  pub text : parsed file ≡ Some value
   pub form : f value ≡ says a es
 
 pub value_of : {A : Type 0} (f : Json → Read A) (file : Bytes) (a : A) (es : List Bytes) → read_with f file ≡ says a es → ValueOf f file a es
@@ -88,15 +89,15 @@ value_of {A} f file a es e = step (leb (length file) max_file) refl (parsed file
   where
     step : (b : Bool) → leb (length file) max_file ≡ b → (o : Option Json) → parsed file ≡ o
         → cond b (judged_text f o) (refused too_long) ≡ says a es → ValueOf f file a es
-    step true q none p e = refused-not-says e
-    step true q (some v) p e = record { value = v; fits = leb-true (length file) max_file q; text = p; form = e }
+    step true q None p e = refused-not-says e
+    step true q (Some v) p e = record { value = v; fits = leb-true (length file) max_file q; text = p; form = e }
     step false q o p e = refused-not-says e
 
 -- the envelope of a file that was looked into
 pub record EnvelopeOf (file : Bytes) (e : Envelope) : Type 0 where
   pub value : Json
-  pub text : parsed file ≡ some value
-  pub form : envelope value ≡ some e
+  pub text : parsed file ≡ Some value
+  pub form : envelope value ≡ Some e
 
 pub envelope_of : (file : Bytes) (e : Envelope) (ks : List Bytes) → read_envelope file ≡ says e ks → EnvelopeOf file e
 unfolding read_envelope opened
@@ -104,9 +105,9 @@ envelope_of file e ks h =
     let w = value_of (λ v. opened (envelope v)) file e ks h in
     step w.value w.text (envelope w.value) refl w.form
   where
-    step : (v : Json) → parsed file ≡ some v → (o : Option Envelope) → envelope v ≡ o → opened o ≡ says e ks → EnvelopeOf file e
-    step v p none q h = refused-not-says h
-    step v p (some d) q h = let d-is : d ≡ e = cc in record { value = v; text = p; form = rw d-is at q }
+    step : (v : Json) → parsed file ≡ Some v → (o : Option Envelope) → envelope v ≡ o → opened o ≡ says e ks → EnvelopeOf file e
+    step v p None q h = refused-not-says h
+    step v p (Some d) q h = let d-is : d ≡ e = cc in record { value = v; text = p; form = rw d-is at q }
 
 -- a file of which none of 1 to 3 holds
 pub record Formed {A : Type 0} (type : Bytes) (body : Json → Option A) (file : Bytes) : Type 0 where
@@ -114,9 +115,9 @@ pub record Formed {A : Type 0} (type : Bytes) (body : Json → Option A) (file :
   pub envelope-is : Envelope
   pub contents : File A
   pub fits : length file ≤ max_file
-  pub text : parsed file ≡ some value
-  pub form : envelope value ≡ some envelope-is
-  pub role : file_of type body envelope-is.signed ≡ some contents
+  pub text : parsed file ≡ Some value
+  pub form : envelope value ≡ Some envelope-is
+  pub role : file_of type body envelope-is.signed ≡ Some contents
 
 -- what reading a role's file comes to: one of 1 to 3, or else it is the keyids and the spec_version that decide
 pub data Outcome {A : Type 0} (type : Bytes) (body : Json → Option A) (keyids : Json → Bool) (file : Bytes) : Read (File A) → Type 0 where
@@ -129,30 +130,30 @@ pub outcome : {A : Type 0} (type : Bytes) (body : Json → Option A) (keyids : J
 unfolding read_as read_with judged_text in_envelope spoken
 outcome {A} type body keyids file = values (leb (length file) max_file) refl (parsed file) refl
   where
-    speaks : (v : Json) (e : Envelope) → length file ≤ max_file → parsed file ≡ some v → envelope v ≡ some e
+    speaks : (v : Json) (e : Envelope) → length file ≤ max_file → parsed file ≡ Some v → envelope v ≡ Some e
         → (o : Option (File A)) → file_of type body e.signed ≡ o → Outcome type body keyids file (spoken e (keyids e.signed) o)
-    speaks v e l p q none r = unformed {x = bad_form} (λ (z : bad_form ≡ other_keyid). never (cc))
-    speaks v e l p q (some g) r =
+    speaks v e l p q None r = unformed {x = bad_form} (λ (z : bad_form ≡ other_keyid). never (cc))
+    speaks v e l p q (Some g) r =
         formed (record { value = v; envelope-is = e; contents = g; fits = l; text = p; form = q; role = r })
 
-    opens : (v : Json) → length file ≤ max_file → parsed file ≡ some v → (o : Option Envelope) → envelope v ≡ o
+    opens : (v : Json) → length file ≤ max_file → parsed file ≡ Some v → (o : Option Envelope) → envelope v ≡ o
         → Outcome type body keyids file (in_envelope (file_of type body) keyids o)
-    opens v l p none q = unformed {x = bad_form} (λ (z : bad_form ≡ other_keyid). never (cc))
-    opens v l p (some e) q = speaks v e l p q (file_of type body e.signed) refl
+    opens v l p None q = unformed {x = bad_form} (λ (z : bad_form ≡ other_keyid). never (cc))
+    opens v l p (Some e) q = speaks v e l p q (file_of type body e.signed) refl
 
     values : (b : Bool) → leb (length file) max_file ≡ b → (o : Option Json) → parsed file ≡ o
         → Outcome type body keyids file (cond b (judged_text (λ v. in_envelope (file_of type body) keyids (envelope v)) o) (refused too_long))
-    values true l none p = unformed {x = not_text} (λ (z : not_text ≡ other_keyid). never (cc))
-    values true l (some v) p = opens v (leb-true (length file) max_file l) p (envelope v) refl
+    values true l None p = unformed {x = not_text} (λ (z : not_text ≡ other_keyid). never (cc))
+    values true l (Some v) p = opens v (leb-true (length file) max_file l) p (envelope v) refl
     values false l o p = unformed {x = too_long} (λ (z : too_long ≡ other_keyid). never (cc))
 
 -- a role's file that was read
 pub record RoleFile {A : Type 0} (type : Bytes) (body : Json → Option A) (keyids : Json → Bool) (file : Bytes) (f : File A) (es : List Bytes) : Type 0 where
   pub value : Json
   pub envelope-is : Envelope
-  pub text : parsed file ≡ some value
-  pub form : envelope value ≡ some envelope-is
-  pub role : file_of type body envelope-is.signed ≡ some f
+  pub text : parsed file ≡ Some value
+  pub form : envelope value ≡ Some envelope-is
+  pub role : file_of type body envelope-is.signed ≡ Some f
   pub own : keyids envelope-is.signed ≡ true
   pub spec : known_spec f.spec_version ≡ true
   pub signers : keyids_of envelope-is.entries ≡ es
@@ -185,7 +186,7 @@ role-file {A} type body keyids file f es h = go (outcome type body keyids file) 
     go (formed w) h = knows w (keyids w.envelope-is.signed) refl (known_spec w.contents.spec_version) refl h
 
 -- the body of a role's file
-pub body_is : {A : Type 0} (type : Bytes) (body : Json → Option A) (v : Json) (f : File A) → file_of type body v ≡ some f → body v ≡ some f.body
+pub body_is : {A : Type 0} (type : Bytes) (body : Json → Option A) (v : Json) (f : File A) → file_of type body v ≡ Some f → body v ≡ Some f.body
 unfolding file_of
 body_is type body v f e =
     let t = had _ _ e in
@@ -193,7 +194,7 @@ body_is type body v f e =
     let version = had _ _ spec.2 in
     let expires = had _ _ version.2 in
     let b = had _ _ expires.2 in
-    b.1 ∙ ap some (ap (λ (x : File _). x.body) (some_is b.2))
+    b.1 ∙ ap Some (ap (λ (x : File _). x.body) (some_is b.2))
 
 -- a reading of what is kept is one of what the file says
 pub kept-says : {A B : Type 0} (f : A → B) (g : Read A) (b : B) (es : List Bytes) → kept f g ≡ says b es → (a : A) × (g ≡ says a es) × (f a ≡ b)
@@ -235,21 +236,21 @@ at-later p start v q u text below e b =
     }
 
 -- where a member is found, more members are written as members are, after a comma
-more : (k : Bytes) (ms : Members) (v : Json) (r : Bytes) → lookup k ms ≡ some v → put_more_members ms r ≡ 44 ∷ put_members ms r
+more : (k : Bytes) (ms : Members) (v : Json) (r : Bytes) → lookup k ms ≡ Some v → put_more_members ms r ≡ 44 ∷ put_members ms r
 unfolding lookup
 more k mnil v r e = none-not-some e
 more k (mcons n w ms) v r e = rw (more-members-cons, members-cons)
 
-placed : (k : Bytes) (ms : Members) (p start : ℕ) (v : Json) (r : Bytes) → lookup k ms ≡ some v → place_from p k ms ≡ some start
+placed : (k : Bytes) (ms : Members) (p start : ℕ) (v : Json) (r : Bytes) → lookup k ms ≡ Some v → place_from p k ms ≡ Some start
     → Placed p start v (put_members ms r)
 unfolding lookup place_from
 placed k mnil p start v r e h = none-not-some e
 placed k (mcons n w ms) p start v r e h =
     step (same n k) e h (placed k ms (p + length (put_str n []) + 1 + length (put w []) + 1) start v r)
   where
-    step : (b : Bool) → cond b (some w) (lookup k ms) ≡ some v
-        → cond b (some (p + length (put_str n []) + 1)) (place_from (p + length (put_str n []) + 1 + length (put w []) + 1) k ms) ≡ some start
-        → (lookup k ms ≡ some v → place_from (p + length (put_str n []) + 1 + length (put w []) + 1) k ms ≡ some start
+    step : (b : Bool) → cond b (Some w) (lookup k ms) ≡ Some v
+        → cond b (Some (p + length (put_str n []) + 1)) (place_from (p + length (put_str n []) + 1 + length (put w []) + 1) k ms) ≡ Some start
+        → (lookup k ms ≡ Some v → place_from (p + length (put_str n []) + 1 + length (put w []) + 1) k ms ≡ Some start
         → Placed (p + length (put_str n []) + 1 + length (put w []) + 1) start v (put_members ms r))
         → Placed p start v (put_members (mcons n w ms) r)
     step true e h below =
@@ -272,7 +273,7 @@ part_of : (file before rest u : Bytes) (start : ℕ) → file ≡ before ++ (u +
 part_of file before rest u start e h =
     (rw (e, drop_at before (u ++ rest) start (sym h)) (take_at u rest (length u) refl), rw e (simp length-append (omega arith)))
 
-is-object : (v : Json) (ms : Members) → members v ≡ some ms → v ≡ obj ms
+is-object : (v : Json) (ms : Members) → members v ≡ Some ms → v ≡ obj ms
 unfolding members
 is-object jnull ms e = none-not-some e
 is-object jtrue ms e = none-not-some e
@@ -282,7 +283,7 @@ is-object (str s) ms e = none-not-some e
 is-object (arr xs) ms e = none-not-some e
 is-object (obj ns) ms e = rw (some_is e)
 
-object-part : (k : Bytes) (ms : Members) (v : Json) (start : ℕ) → lookup k ms ≡ some v → place_of k ms ≡ some start
+object-part : (k : Bytes) (ms : Members) (v : Json) (start : ℕ) → lookup k ms ≡ Some v → place_of k ms ≡ Some start
     → (take (length (put v [])) (drop start (put (obj ms) [])) ≡ put v []) × (start + length (put v []) ≤ length (put (obj ms) []))
 unfolding place_of
 object-part k ms v start e h =
@@ -291,7 +292,7 @@ object-part k ms v start e h =
     (put-obj ms [] ∙ ap (λ (t : Bytes). 123 ∷ t) (w.is ∙ ap (λ (t : Bytes). w.before ++ t) (put-split v w.rest)))
     (omega (arith, w.place))
 
-envelope-part : (v : Json) (e : Envelope) → envelope v ≡ some e → SignedPart (put v []) e
+envelope-part : (v : Json) (e : Envelope) → envelope v ≡ Some e → SignedPart (put v []) e
 unfolding envelope
 envelope-part v e h =
     let es = had _ _ h in

@@ -2,7 +2,7 @@
 -- threshold from 1 to their number.
 use mathlib.Core.Path.{◌≡◌, refl, sym, ap, ◌∙◌, subst}
 use mathlib.Core.Logic.{⊎_elim}
-use mathlib.Core.Option.{some}
+use Rattle.std.specs.declared.option.Option.TheVariants.{Some}
 use mathlib.Core.Bool.{Bool, true, false, cond, ◌&&◌}
 use mathlib.Core.List.Memᴰ
 use mathlib.Core.List.{List, ◌∷◌, map, Memᴰ}
@@ -34,25 +34,25 @@ use Rattle.rules.proofs.ReadingLaws.{parsed-exactly, role-file, body_is, kept-sa
 abbrev pub ValidSome : Json → Type 0
 ValidSome v = (d : ℕ) × Valid v d
 
-lookup-more : (k p : Bytes) (ms : Members) (v : Json) (d : ℕ) → ValidMore p ms d → lookup k ms ≡ some v → Valid v d
+lookup-more : (k p : Bytes) (ms : Members) (v : Json) (d : ℕ) → ValidMore p ms d → lookup k ms ≡ Some v → Valid v d
 unfolding Valid lookup
 lookup-more k p mnil v d h e = none-not-some e
 lookup-more k p (mcons n w ms) v d h e = step (same n k) e (lookup-more k n ms v d h.3)
   where
-    step : (b : Bool) → cond b (some w) (lookup k ms) ≡ some v → (lookup k ms ≡ some v → Valid v d) → Valid v d
+    step : (b : Bool) → cond b (Some w) (lookup k ms) ≡ Some v → (lookup k ms ≡ Some v → Valid v d) → Valid v d
     step true e more = subst (λ (x : Json). Valid x d) (some_is e) h.2
     step false e more = more e
 
-lookup-valid : (k : Bytes) (ms : Members) (v : Json) (d : ℕ) → ValidMembers ms d → lookup k ms ≡ some v → Valid v d
+lookup-valid : (k : Bytes) (ms : Members) (v : Json) (d : ℕ) → ValidMembers ms d → lookup k ms ≡ Some v → Valid v d
 unfolding Valid lookup
 lookup-valid k mnil v d h e = none-not-some e
 lookup-valid k (mcons n w ms) v d h e = step (same n k) e
   where
-    step : (b : Bool) → cond b (some w) (lookup k ms) ≡ some v → Valid v d
+    step : (b : Bool) → cond b (Some w) (lookup k ms) ≡ Some v → Valid v d
     step true e = subst (λ (x : Json). Valid x d) (some_is e) h.1
     step false e = lookup-more k n ms v d h.2 e
 
-pub members-valid : (v : Json) (ms : Members) → ValidSome v → members v ≡ some ms → (d : ℕ) × ValidMembers ms d
+pub members-valid : (v : Json) (ms : Members) → ValidSome v → members v ≡ Some ms → (d : ℕ) × ValidMembers ms d
 unfolding Valid members
 members-valid jnull ms h e = none-not-some e
 members-valid jtrue ms h e = none-not-some e
@@ -63,7 +63,7 @@ members-valid (arr xs) ms h e = none-not-some e
 members-valid (obj ns) ms (zero, h) e = absurd h
 members-valid (obj ns) ms (suc d, h) e = (d, subst (λ (x : Members). ValidMembers x d) (some_is e) h)
 
-pub field-valid : (k : Bytes) (v w : Json) → ValidSome v → field k v ≡ some w → ValidSome w
+pub field-valid : (k : Bytes) (v w : Json) → ValidSome v → field k v ≡ Some w → ValidSome w
 unfolding field
 field-valid k v w h e =
     let ms = had _ _ e in
@@ -75,7 +75,7 @@ field-valid k v w h e =
 abbrev keyids_in : List Key → List Bytes
 keyids_in ks = map (λ (k : Key). k.keyid) ks
 
-pub key-hex : (n : Bytes) (v : Json) (k : Key) → key n v ≡ some k → (is_hex key_size n ≡ true) × (undo n ≡ k.keyid)
+pub key-hex : (n : Bytes) (v : Json) (k : Key) → key n v ≡ Some k → (is_hex key_size n ≡ true) × (undo n ≡ k.keyid)
 unfolding key unhex
 key-hex n v k e =
     let id = had _ _ e in
@@ -91,7 +91,7 @@ record Table (p : Bytes) (ks : List Key) : Type 0 where
   above : (k : Bytes) → Memᴰ k (keyids_in ks) → (n : Bytes) × (less p n ≡ true) × (is_hex key_size n ≡ true) × (undo n ≡ k)
 
 -- one key more, whose name is before theirs
-one_more : (n : Bytes) (v : Json) (k : Key) (ks : List Key) → key n v ≡ some k → Table n ks → Different (k.keyid ∷ keyids_in ks)
+one_more : (n : Bytes) (v : Json) (k : Key) (ks : List Key) → key n v ≡ Some k → Table n ks → Different (k.keyid ∷ keyids_in ks)
 one_more n v k ks e t = (not_there, t.different)
   where
     not_there : ¬ (Memᴰ k.keyid (keyids_in ks))
@@ -101,7 +101,7 @@ one_more n v k ks e t = (not_there, t.different)
         let n-is : n ≡ a.0 = hex-one key_size n a.0 h.0 a.2 (h.1 ∙ sym a.3) in
         never (sym a.1 ∙ ap (λ (x : Bytes). less n x) (sym n-is) ∙ less_self n)
 
-table_more : (p : Bytes) (ms : Members) (ks : List Key) (d : ℕ) → ValidMore p ms d → each_named key ms ≡ some ks → Table p ks
+table_more : (p : Bytes) (ms : Members) (ks : List Key) (d : ℕ) → ValidMore p ms d → each_named key ms ≡ Some ks → Table p ks
 unfolding Valid each_named
 table_more p mnil ks d h e = subst (Table p) (some_is e) (record { different = tt; above = λ k m. elim m [ ] })
 table_more p (mcons n v ms) ks d h e =
@@ -118,7 +118,7 @@ table_more p (mcons n v ms) ks d h e =
           (Memᴰ.cases_cons m);
     })
 
-table-different : (ms : Members) (ks : List Key) (d : ℕ) → ValidMembers ms d → each_named key ms ≡ some ks → Different (keyids_in ks)
+table-different : (ms : Members) (ks : List Key) (d : ℕ) → ValidMembers ms d → each_named key ms ≡ Some ks → Different (keyids_in ks)
 unfolding Valid each_named
 table-different mnil ks d h e = subst (λ (x : List Key). Different (keyids_in x)) (some_is e) tt
 table-different (mcons n v ms) ks d h e =
@@ -127,7 +127,7 @@ table-different (mcons n v ms) ks d h e =
     subst (λ (x : List Key). Different (keyids_in x)) (some_is more.2)
     (one_more n v k.0 more.0 k.1 (table_more n ms more.0 d h.2 more.1))
 
-keys-different : (v : Json) (ks : List Key) → ValidSome v → must (bytes "keys") keys v ≡ some ks → Different (keyids_in ks)
+keys-different : (v : Json) (ks : List Key) → ValidSome v → must (bytes "keys") keys v ≡ Some ks → Different (keyids_in ks)
 unfolding must keys
 keys-different v ks h e =
     let w = had _ _ e in
@@ -149,7 +149,7 @@ record RoleSays (table : List Bytes) (r : Role) : Type 0 where
   least : 1 ≤ r.threshold
   most : r.threshold ≤ length r.keyids
 
-role-says : (table : List Bytes) (v : Json) (r : Role) → role table v ≡ some r → RoleSays table r
+role-says : (table : List Bytes) (v : Json) (r : Role) → role table v ≡ Some r → RoleSays table r
 unfolding role must
 role-says table v r e =
     let xs = had _ _ e in
@@ -207,11 +207,11 @@ record RootSays (r : records.Root) : Type 0 where
   of_snapshot : RoleSays (keyids_in r.keys) r.snapshot_role
   of_targets : RoleSays (keyids_in r.keys) r.targets_role
 
-named-role : (name : Bytes) (table : List Bytes) (roles : Json) (r : Role) → must name (role table) roles ≡ some r → RoleSays table r
+named-role : (name : Bytes) (table : List Bytes) (roles : Json) (r : Role) → must name (role table) roles ≡ Some r → RoleSays table r
 unfolding must
 named-role name table roles r e = let w = had _ _ e in role-says table w.0 r w.2
 
-root-says : (v : Json) (r : records.Root) → ValidSome v → root v ≡ some r → RootSays r
+root-says : (v : Json) (r : records.Root) → ValidSome v → root v ≡ Some r → RootSays r
 unfolding root
 root-says v r h e =
     let consistent = had _ _ e in
@@ -230,7 +230,7 @@ root-says v r h e =
       of_targets = named-role _ _ roles.0 of_targets.0 of_targets.1;
     })
 
-pub signed-valid : (v : Json) (e : Envelope) → ValidSome v → envelope v ≡ some e → ValidSome e.signed
+pub signed-valid : (v : Json) (e : Envelope) → ValidSome v → envelope v ≡ Some e → ValidSome e.signed
 unfolding envelope
 signed-valid v e h q =
     let es = had _ _ q in

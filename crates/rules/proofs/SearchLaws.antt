@@ -1,6 +1,7 @@
 -- The search that stops answers as the whole search on rising names, and the names of a targets file rise; what number find gives.
 use mathlib.Core.Path.{◌≡◌, refl, sym, ap, ◌∙◌, subst}
-use mathlib.Core.Option.{Option, none, some}
+use Rattle.std.specs.declared.option.Option.{Option}
+use Rattle.std.specs.declared.option.Option.TheVariants.{None, Some}
 use mathlib.Core.Logic.{◌⊎◌, inl, inr}
 use mathlib.Core.Bool.{Bool, true, false, cond, ◌&&◌, ◌||◌}
 use mathlib.Core.List.{List, [], ◌∷◌}
@@ -59,7 +60,7 @@ none-smaller path p (i ∷ is) r b =
     let n = not-smaller path p i.path r.0 b in
     rw n (none-smaller path i.path is r.1 n)
 
-none-listed : (path p : Bytes) (is : List Image) → Above p (paths is) → less p path ≡ false → image_of path is ≡ none
+none-listed : (path p : Bytes) (is : List Image) → Above p (paths is) → less p path ≡ false → image_of path is ≡ None
 unfolding image_of Above paths
 none-listed path p [] r b = refl
 none-listed path p (i ∷ is) r b =
@@ -86,7 +87,7 @@ early_stop path (i ∷ is) r = go (less i.path path) refl (early_stop path is (a
     differs : (n : Bytes) → less n path ≡ true → same path n ≡ false
     differs n h = same-sym path n ∙ less-differs n path h
 
-    kept : (b : Bool) → keep b i ≡ cond b (some i) none
+    kept : (b : Bool) → keep b i ≡ cond b (Some i) None
     kept true = refl
     kept false = refl
 
@@ -100,7 +101,7 @@ early_stop path (i ∷ is) r = go (less i.path path) refl (early_stop path is (a
 
 -- ## The names of a targets file
 
-image-path : (n : Bytes) (v : Json) (i : Image) → image n v ≡ some i → n ≡ i.path
+image-path : (n : Bytes) (v : Json) (i : Image) → image n v ≡ Some i → n ≡ i.path
 unfolding image name_of
 image-path n v i e =
     let name = had _ _ e in
@@ -124,7 +125,7 @@ members_rise mnil d h = tt
 members_rise (mcons n v ms) d h = more_rise n ms d h.2
 
 -- an image has its member's name
-images-named : (ms : Members) (is : List Image) → each_named image ms ≡ some is → names_of ms ≡ paths is
+images-named : (ms : Members) (is : List Image) → each_named image ms ≡ Some is → names_of ms ≡ paths is
 unfolding each_named names_of paths
 images-named mnil is e = ap paths (some_is e)
 images-named (mcons n v ms) is e =
@@ -132,7 +133,7 @@ images-named (mcons n v ms) is e =
     let more = had _ _ i.2 in
     rw (image-path n v i.0 i.1, images-named ms more.0 more.1) (ap paths (some_is more.2))
 
-pub images-rise : (v : Json) (is : List Image) → ValidSome v → images v ≡ some is → Rising (paths is)
+pub images-rise : (v : Json) (is : List Image) → ValidSome v → images v ≡ Some is → Rising (paths is)
 unfolding images
 images-rise v is h e =
     let ms = had _ _ e in

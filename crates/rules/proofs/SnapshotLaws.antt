@@ -1,6 +1,7 @@
 -- A snapshot that was read lists `targets.json`, with a version that is not 0: `targets_entry` is what the file says.
 use mathlib.Core.Path.{◌≡◌, sym, ap, ◌∙◌, subst}
-use mathlib.Core.Option.{Option, some}
+use Rattle.std.specs.declared.option.Option.{Option}
+use Rattle.std.specs.declared.option.Option.TheVariants.{Some}
 use mathlib.Core.Bool.{Bool, true, false, cond}
 use mathlib.Core.List.{List, ◌∷◌}
 use Prim.Native.Nat.{◌≤◌}
@@ -21,18 +22,18 @@ use Rattle.rules.proofs.VersionLaws.{named-is, listed-version}
 -- a list says something of the name k, with a version that is not 0
 pub record Lists (k : Bytes) (ns : List Named) : Type 0 where
   pub listed-as : Listed
-  pub is : listed_as k ns ≡ some listed-as
+  pub is : listed_as k ns ≡ Some listed-as
   pub positive : 1 ≤ listed-as.version
 
 lists-one : (k : Bytes) (n : Named) (ns : List Named) (v : Json) (o : Option Json) (w : Json) (b : Bool) → same k n.name ≡ b
-    → listed v ≡ some n.listed → cond b (some v) o ≡ some w → (o ≡ some w → Lists k ns) → Lists k (n ∷ ns)
+    → listed v ≡ Some n.listed → cond b (Some v) o ≡ Some w → (o ≡ Some w → Lists k ns) → Lists k (n ∷ ns)
 unfolding listed_as
 lists-one k n ns v o w true e h q more = record { listed-as = n.listed; is = rw e; positive = (listed-version v n.listed h).not_zero }
 lists-one k n ns v o w false e h q more =
     let r = more q in
     record { listed-as = r.listed-as; is = rw e r.is; positive = r.positive }
 
-lists : (k : Bytes) (ms : Members) (ns : List Named) (w : Json) → each_named named ms ≡ some ns → lookup k ms ≡ some w → Lists k ns
+lists : (k : Bytes) (ms : Members) (ns : List Named) (w : Json) → each_named named ms ≡ Some ns → lookup k ms ≡ Some w → Lists k ns
 unfolding each_named lookup
 lists k mnil ns w e q = none-not-some q
 lists k (mcons name v ms) ns w e q =
@@ -43,7 +44,7 @@ lists k (mcons name v ms) ns w e q =
     (lists-one k n.0 more.0 v (lookup k ms) w (same name k) (ap (λ (x : Bytes). same k x) (sym is.0) ∙ same-sym k name) is.1 q
     (lists k ms more.0 w more.1))
 
-snapshot-lists : (v : Json) (ns : List Named) → snapshot v ≡ some ns → Lists (bytes "targets.json") ns
+snapshot-lists : (v : Json) (ns : List Named) → snapshot v ≡ Some ns → Lists (bytes "targets.json") ns
 unfolding snapshot must names
 snapshot-lists v ns e =
     let at = had _ _ e in

@@ -2,7 +2,8 @@
 -- wrong" one that such a controller fails.
 use mathlib.Core.Path.{refl}
 use mathlib.Core.List.{List, [], ◌∷◌, map}
-use mathlib.Core.Option.{Option, none, some}
+use Rattle.std.specs.declared.option.Option.{Option}
+use Rattle.std.specs.declared.option.Option.TheVariants.{None, Some}
 use mathlib.Core.Bool.{Bool, true, false}
 use Prim.Native.Nat.{ℕ}
 use lib.IntN.{ℤ, pos, negsuc}
@@ -47,7 +48,7 @@ root4 = root_at 4 (only b) (only b) (only b)
 
 -- Nothing lists a digest here; the cases of digests are in the crate cases.
 abbrev pub listed : ℕ → Listed
-listed version = record { version = version; length = some 30; digest = none }
+listed version = record { version = version; length = Some 30; digest = None }
 
 abbrev pub timestamp_at : ℕ → ℤ → ℕ → Timestamp
 timestamp_at version expires snapshot = record { version = version; expires = expires; snapshot = listed snapshot }
@@ -65,7 +66,7 @@ snapshot_at = snapshot_until (pos 1000)
 
 -- a state that holds a root only, of any version or root 4
 abbrev pub holding_root : Root → ℤ → State
-holding_root root start = record { root = some root; timestamp = none; snapshot = none; targets = none; start = start }
+holding_root root start = record { root = Some root; timestamp = None; snapshot = None; targets = None; start = start }
 
 abbrev pub holding_version : ℕ → State
 holding_version version = holding_root (root_at version (only b) (only b) (only b)) (pos 999)
@@ -78,10 +79,10 @@ holding = holding_root root4
 abbrev pub holding_all : ℤ → ℤ → ℤ → ℤ → ℕ → ℕ → State
 holding_all r t n g snapshot targets =
     record {
-      root = some (root_until r 4 (only b) (only b) (only b));
-      timestamp = some (timestamp_at 2 t snapshot);
-      snapshot = some (snapshot_until n 3 targets);
-      targets = some (record { version = 7; expires = g; digest = [] });
+      root = Some (root_until r 4 (only b) (only b) (only b));
+      timestamp = Some (timestamp_at 2 t snapshot);
+      snapshot = Some (snapshot_until n 3 targets);
+      targets = Some (record { version = 7; expires = g; digest = [] });
       start = pos 999;
     }
 
@@ -204,10 +205,10 @@ expired1 f =
 abbrev pub missing1 : (State → ℕ) → List ℕ
 missing1 f =
     let s = full 7 in
-    f (record { root = none; timestamp = s.timestamp; snapshot = s.snapshot; targets = s.targets; start = s.start })
-    ∷ f (record { root = s.root; timestamp = none; snapshot = s.snapshot; targets = s.targets; start = s.start })
-    ∷ f (record { root = s.root; timestamp = s.timestamp; snapshot = none; targets = s.targets; start = s.start })
-    ∷ f (record { root = s.root; timestamp = s.timestamp; snapshot = s.snapshot; targets = none; start = s.start })
+    f (record { root = None; timestamp = s.timestamp; snapshot = s.snapshot; targets = s.targets; start = s.start })
+    ∷ f (record { root = s.root; timestamp = None; snapshot = s.snapshot; targets = s.targets; start = s.start })
+    ∷ f (record { root = s.root; timestamp = s.timestamp; snapshot = None; targets = s.targets; start = s.start })
+    ∷ f (record { root = s.root; timestamp = s.timestamp; snapshot = s.snapshot; targets = None; start = s.start })
     ∷ f (holding_all (pos 1000) (pos 1000) (pos 1000) (pos 1000) 4 7)
     ∷ f (holding_all (pos 1000) (pos 1000) (pos 1000) (pos 1000) 3 8)
     ∷ []
@@ -315,9 +316,9 @@ rotations-right = refl
 
 abbrev pub paths : List (Case (Option Bytes))
 paths =
-    name_of max_path [] gives none
-    ∷ name_of max_path (replicate 128 97) gives some (replicate 128 97)
-    ∷ name_of max_path (replicate 129 97) gives none
+    name_of max_path [] gives None
+    ∷ name_of max_path (replicate 128 97) gives Some (replicate 128 97)
+    ∷ name_of max_path (replicate 129 97) gives None
     ∷ []
 
 pub paths-right : Right paths
@@ -381,8 +382,8 @@ specs-right = refl
 
 abbrev pub sole_names : List (Case (Option Json))
 sole_names =
-    single (bytes "snapshot.json") (mcons (bytes "snapshot.json") jnull mnil) gives some jnull
-    ∷ single (bytes "a") (mcons (bytes "a!") jnull mnil) gives none
+    single (bytes "snapshot.json") (mcons (bytes "snapshot.json") jnull mnil) gives Some jnull
+    ∷ single (bytes "a") (mcons (bytes "a!") jnull mnil) gives None
     ∷ []
 
 pub sole-names-right : Right sole_names

@@ -2,7 +2,8 @@
 use mathlib.Core.Path.{◌≡◌, refl, sym, ◌∙◌}
 use mathlib.Core.Logic.{◌⊎◌, inl, inr, ⊎_elim}
 use mathlib.Core.Bool.{Bool, true, false, cond, ◌&&◌}
-use mathlib.Core.Option.{Option, none, some}
+use Rattle.std.specs.declared.option.Option.{Option}
+use Rattle.std.specs.declared.option.Option.TheVariants.{None, Some}
 use mathlib.Core.List.{List, [], ◌∷◌}
 use Prim.Native.Nat.{ℕ, zero, suc, ◌≤◌, ◌<◌}
 use native.Mathlib.Omega.{arith}
@@ -94,18 +95,18 @@ line_holds (m when false ∷ rest) n x e = go (line_holds rest n x e) (eqb n m)
 
 -- ## Records that may not be held
 
-pub held_test : {A : Type 0} {o : Option A} {a : A} (p : A → Bool) → o ≡ some a → of_held o p ≡ false → p a ≡ false
+pub held_test : {A : Type 0} {o : Option A} {a : A} (p : A → Bool) → o ≡ Some a → of_held o p ≡ false → p a ≡ false
 held_test p e t = rw e at t
 
-pub test_held : {A : Type 0} (o : Option A) (p : A → Bool) → ((a : A) → o ≡ some a → p a ≡ false) → of_held o p ≡ false
-test_held none p f = refl
-test_held (some a) p f = f a refl
+pub test_held : {A : Type 0} (o : Option A) (p : A → Bool) → ((a : A) → o ≡ Some a → p a ≡ false) → of_held o p ≡ false
+test_held None p f = refl
+test_held (Some a) p f = f a refl
 
-pub held-true : {A : Type 0} (o : Option A) (p : A → Bool) → of_held o p ≡ true → (a : A) × (o ≡ some a) × (p a ≡ true)
-held-true none p e = never (sym e)
-held-true (some a) p e = (a, refl, e)
+pub held-true : {A : Type 0} (o : Option A) (p : A → Bool) → of_held o p ≡ true → (a : A) × (o ≡ Some a) × (p a ≡ true)
+held-true None p e = never (sym e)
+held-true (Some a) p e = (a, refl, e)
 
-pub one-held : {A : Type 0} {o : Option A} {a b : A} → o ≡ some a → o ≡ some b → a ≡ b
+pub one-held : {A : Type 0} {o : Option A} {a b : A} → o ≡ Some a → o ≡ Some b → a ≡ b
 one-held p q = cc
 
 -- ## Reading and the table

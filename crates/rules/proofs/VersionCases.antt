@@ -3,7 +3,8 @@
 use mathlib.Core.Path.{refl}
 use mathlib.Core.Bool.{false}
 use mathlib.Core.List.{List, [], ◌∷◌}
-use mathlib.Core.Option.{Option, none, some}
+use Rattle.std.specs.declared.option.Option.{Option}
+use Rattle.std.specs.declared.option.Option.TheVariants.{None, Some}
 use Prim.Native.Nat.{ℕ}
 use Prim.Native.String.{String}
 use lib.IntN.{pos}
@@ -23,14 +24,14 @@ numbered long digits = obj (mcons (bytes "length") (num false (bytes long)) (mco
 
 abbrev pub versions : List (Case (Option ℕ))
 versions =
-    version (numbered "0" "0") gives none
-    ∷ version (numbered "0" "1") gives some 1
+    version (numbered "0" "0") gives None
+    ∷ version (numbered "0" "1") gives Some 1
     -- 01's limit is one no more
-    ∷ version (numbered "0" "2147483648") gives some 2147483648
+    ∷ version (numbered "0" "2147483648") gives Some 2147483648
     -- "numbers files like 20260101120000"
-    ∷ version (numbered "0" "20260101120000") gives some 20260101120000
-    ∷ version (numbered "0" "9007199254740991") gives some 9007199254740991
-    ∷ version (numbered "0" "9007199254740992") gives none
+    ∷ version (numbered "0" "20260101120000") gives Some 20260101120000
+    ∷ version (numbered "0" "9007199254740991") gives Some 9007199254740991
+    ∷ version (numbered "0" "9007199254740992") gives None
     ∷ []
 
 pub versions-right : Right versions
@@ -40,9 +41,9 @@ versions-right = refl
 abbrev pub listings : List (Case (Option Listed))
 listings =
     listed (numbered "4294967295" "9007199254740991")
-    gives some (record { version = 9007199254740991; length = some 4294967295; digest = none })
-    ∷ listed (numbered "4294967295" "9007199254740992") gives none
-    ∷ listed (numbered "4294967296" "9007199254740991") gives none
+    gives Some (record { version = 9007199254740991; length = Some 4294967295; digest = None })
+    ∷ listed (numbered "4294967295" "9007199254740992") gives None
+    ∷ listed (numbered "4294967296" "9007199254740991") gives None
     ∷ []
 
 pub listings-right : Right listings

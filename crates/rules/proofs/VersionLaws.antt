@@ -1,7 +1,9 @@
 -- Versions (A7): which are read, exactly; and that a file which was read holds no others, as its own or in what it lists.
 use mathlib.Core.Path.{◌≡◌, ap, ◌∙◌, subst}
 use mathlib.Core.Logic.{◌↔◌}
-use mathlib.Core.Option.{Option, some, bind}
+use Rattle.std.specs.declared.option.Option.{Option}
+use Rattle.std.specs.declared.option.Option.TheVariants.{Some}
+use Rattle.canonical_json.specs.Options.{bind}
 use mathlib.Core.Bool.{Bool, ◌&&◌}
 use mathlib.Core.List.Memᴰ
 use mathlib.Core.List.{List, [], ◌∷◌}
@@ -27,21 +29,21 @@ use Rattle.rules.proofs.ReadingLaws.{role-file, body_is, kept-says}
 
 -- it is read exactly where the member is a whole number in the range
 pub version-read : (v : Json) (n : ℕ)
-    → (version v ≡ some n) ↔ ((w : Json) × (field (bytes "version") v ≡ some w) × (natural w ≡ some n) × IsVersion n)
+    → (version v ≡ Some n) ↔ ((w : Json) × (field (bytes "version") v ≡ Some w) × (natural w ≡ Some n) × IsVersion n)
 unfolding version must bind
 version-read v n = (there, back)
   where
-    there : version v ≡ some n → (w : Json) × (field (bytes "version") v ≡ some w) × (natural w ≡ some n) × IsVersion n
+    there : version v ≡ Some n → (w : Json) × (field (bytes "version") v ≡ Some w) × (natural w ≡ Some n) × IsVersion n
     there e =
         let at = had _ _ e in
         let m = (number-exactly 1 max_version at.0 n).0 at.2 in
         (at.0, at.1, m.0, record { not_zero = m.1; at_most = m.2 })
 
-    back : (w : Json) × (field (bytes "version") v ≡ some w) × (natural w ≡ some n) × IsVersion n → version v ≡ some n
+    back : (w : Json) × (field (bytes "version") v ≡ Some w) × (natural w ≡ Some n) × IsVersion n → version v ≡ Some n
     back w = rw w.1 ((number-exactly 1 max_version w.0 n).1 (w.2, w.3.not_zero, w.3.at_most))
 
 -- what is said of a listed file
-pub listed-version : (v : Json) (l : Listed) → listed v ≡ some l → IsVersion l.version
+pub listed-version : (v : Json) (l : Listed) → listed v ≡ Some l → IsVersion l.version
 unfolding listed
 listed-version v l e =
     let n = had _ _ e in
@@ -50,17 +52,17 @@ listed-version v l e =
     subst (λ (x : Listed). IsVersion x.version) (some_is d.2) ((version-read v n.0).0 n.1).3
 
 -- a name that is listed, and what is said of it
-pub named-is : (name : Bytes) (v : Json) (n : Named) → named name v ≡ some n → (name ≡ n.name) × (listed v ≡ some n.listed)
+pub named-is : (name : Bytes) (v : Json) (n : Named) → named name v ≡ Some n → (name ≡ n.name) × (listed v ≡ Some n.listed)
 unfolding named name_of
 named-is name v n e =
     let b = had _ _ e in
     let l = had _ _ b.2 in
     let w = kept-is (leb 1 (length name) && leb (length name) max_name) name b.1 in
     let r = some_is l.2 in
-    (w.1 ∙ ap (λ (x : Named). x.name) r, l.1 ∙ ap (λ (x : Named). some x.listed) r)
+    (w.1 ∙ ap (λ (x : Named). x.name) r, l.1 ∙ ap (λ (x : Named). Some x.listed) r)
 
 -- a file's own
-file-version : {A : Type 0} (type : Bytes) (body : Json → Option A) (v : Json) (f : File A) → file_of type body v ≡ some f → IsVersion f.version
+file-version : {A : Type 0} (type : Bytes) (body : Json → Option A) (v : Json) (f : File A) → file_of type body v ≡ Some f → IsVersion f.version
 unfolding file_of
 file-version type body v f e =
     let t = had _ _ e in
@@ -74,7 +76,7 @@ file-version type body v f e =
 
 -- a file that was read: its own version, and the value of which its body was read
 read-file : {A : Type 0} (type : Bytes) (body : Json → Option A) (keyids : Json → Bool) (file : Bytes) (f : File A) (es : List Bytes)
-    → read_as type body keyids file ≡ says f es → (v : Json) × IsVersion f.version × (body v ≡ some f.body)
+    → read_as type body keyids file ≡ says f es → (v : Json) × IsVersion f.version × (body v ≡ Some f.body)
 read-file type body keyids file f es h =
     let w = role-file type body keyids file f es h in
     let v = w.envelope-is.signed in
@@ -94,7 +96,7 @@ root-versions file r es h =
     let w = read-file (bytes "root") root root_keyids file f.0 es f.1 in
     subst (λ (x : Root). AllVersions (versions_of (a_root x))) f.2 (one_more _ _ w.1 no-versions)
 
-sole_listed : (v : Json) (l : Listed) → timestamp v ≡ some l → IsVersion l.version
+sole_listed : (v : Json) (l : Listed) → timestamp v ≡ Some l → IsVersion l.version
 unfolding timestamp must sole
 sole_listed v l e =
     let meta = had _ _ e in
@@ -110,7 +112,7 @@ timestamp-versions file t es h =
     subst (λ (x : Timestamp). AllVersions (versions_of (a_timestamp x))) f.2
     (one_more _ _ w.1 (one_more _ _ (sole_listed w.0 f.0.body w.2) no-versions))
 
-each-listed : (ms : Members) (ns : List Named) → each_named named ms ≡ some ns → AllVersions (listed_versions ns)
+each-listed : (ms : Members) (ns : List Named) → each_named named ms ≡ Some ns → AllVersions (listed_versions ns)
 unfolding each_named
 each-listed mnil ns e = subst (λ (l : List Named). AllVersions (listed_versions l)) (some_is e) no-versions
 each-listed (mcons name v ms) ns e =
@@ -119,7 +121,7 @@ each-listed (mcons name v ms) ns e =
     subst (λ (l : List Named). AllVersions (listed_versions l)) (some_is more.2)
     (one_more _ _ (listed-version v a.0.listed (named-is name v a.0 a.1).1) (each-listed ms more.0 more.1))
 
-all_listed : (v : Json) (ns : List Named) → snapshot v ≡ some ns → AllVersions (listed_versions ns)
+all_listed : (v : Json) (ns : List Named) → snapshot v ≡ Some ns → AllVersions (listed_versions ns)
 unfolding snapshot must names
 all_listed v ns e =
     let meta = had _ _ e in

@@ -1,7 +1,8 @@
 -- The paper's words (specs/Words) against the tests that decide them (specs/Conditions).
 use mathlib.Core.Path.{◌≡◌, refl, sym, ap}
 use mathlib.Core.Logic.{◌↔◌, ⊎_elim}
-use mathlib.Core.Option.{Option, none, some}
+use Rattle.std.specs.declared.option.Option.{Option}
+use Rattle.std.specs.declared.option.Option.TheVariants.{None, Some}
 use mathlib.Core.Bool.{Bool, true, false, not, cond, ◌&&◌, or-true}
 use mathlib.Core.List.{List, [], ◌∷◌, Memᴰ}
 use Prim.Native.Nat.{ℕ, ◌≤◌}
@@ -175,22 +176,22 @@ rotates-targets-exactly old new =
 -- ## Lists of names
 
 -- what a list says of a name stands in it
-listed-mem : (name : Bytes) (ns : List Named) (l : Listed) → listed_as name ns ≡ some l
+listed-mem : (name : Bytes) (ns : List Named) (l : Listed) → listed_as name ns ≡ Some l
     → (n : Named) × Memᴰ n ns × (n.name ≡ name) × (n.listed ≡ l)
 unfolding listed_as
 listed-mem name [] l e = none-not-some e
 listed-mem name (n ∷ ns) l e = step (same name n.name) refl e (listed-mem name ns l)
   where
-    step : (b : Bool) → same name n.name ≡ b → cond b (some n.listed) (listed_as name ns) ≡ some l
-        → (listed_as name ns ≡ some l → (m : Named) × Memᴰ m ns × (m.name ≡ name) × (m.listed ≡ l))
+    step : (b : Bool) → same name n.name ≡ b → cond b (Some n.listed) (listed_as name ns) ≡ Some l
+        → (listed_as name ns ≡ Some l → (m : Named) × Memᴰ m ns × (m.name ≡ name) × (m.listed ≡ l))
         → (m : Named) × Memᴰ m (n ∷ ns) × (m.name ≡ name) × (m.listed ≡ l)
     step true q e more = (n, Memᴰ.head refl, sym (same_true name n.name q), cc)
     step false q e more = let w = more e in (w.0, Memᴰ.tail w.1, w.2, w.3)
 
-still : (n : Named) (o : Option Listed) → (fallen n o ≡ false) ↔ ((l : Listed) × (o ≡ some l) × (n.listed.version ≤ l.version))
+still : (n : Named) (o : Option Listed) → (fallen n o ≡ false) ↔ ((l : Listed) × (o ≡ Some l) × (n.listed.version ≤ l.version))
 unfolding fallen
-still n none = (λ e. never e, λ w. none-not-some w.1)
-still n (some l) = (
+still n None = (λ e. never e, λ w. none-not-some w.1)
+still n (Some l) = (
   λ e. (l, refl, ltb-false l.version n.listed.version e),
   λ w. rw (some_is w.1) (le-ltb w.0.version n.listed.version w.2),
 )
@@ -219,13 +220,13 @@ unfolding targets_entry
 keeps-targets a b k = step (listed_as (bytes "targets.json") a.names) refl
   where
     step : (o : Option Listed) → listed_as (bytes "targets.json") a.names ≡ o
-        → (elim o as (λ x. Listed) [ none ↦ record { version = 0; length = none; digest = none } | some l ↦ l ]).version
+        → (elim o as (λ x. Listed) [ None ↦ record { version = 0; length = None; digest = None } | Some l ↦ l ]).version
         ≤ (targets_entry b).version
-    step none e = omega arith
-    step (some l) e =
+    step None e = omega arith
+    step (Some l) e =
         let g = listed-mem (bytes "targets.json") a.names l e in
         let v = k g.0 g.1 in
-        let there : listed_as (bytes "targets.json") b.names ≡ some v.0 = rw g.2 at v.1 in
+        let there : listed_as (bytes "targets.json") b.names ≡ Some v.0 = rw g.2 at v.1 in
         rw there (rw g.3 at v.2)
 
 -- ## As listed

@@ -1,5 +1,6 @@
 -- What the calls give besides an answer and a state: find, key, image, look, entry (01, "Text" and "Steps"). A refusal gives zeros.
-use Rattle.std.proofs.Math.Option.{Option, none, some}
+use Rattle.std.specs.declared.option.Option.{Option}
+use Rattle.std.specs.declared.option.Option.TheVariants.{None, Some}
 use Rattle.std.specs.Prelude.{Bool, cond, not, ◌&&◌, List, [], ◌∷◌, ℕ, zero, suc, eqb, leb, length, take, drop, replicate}
 use Rattle.base.specs.Bytes.{Bytes, same}
 use Rattle.base.specs.Hex.{undo}
@@ -26,8 +27,8 @@ unfoldable pub nothing_found : Found
 nothing_found = record { length = 0; digest = zeros digest_size }
 
 unfoldable pub the_image : Option Image → Found
-the_image none = nothing_found
-the_image (some i) = record { length = i.length; digest = i.digest }
+the_image None = nothing_found
+the_image (Some i) = record { length = i.length; digest = i.digest }
 
 unfoldable pub in_targets : Bytes → Read (File (List Image)) → Found
 in_targets path (refused f) = nothing_found
@@ -52,12 +53,12 @@ compared_by s q = cond (unsearched (answer s (find q))) 0 (compared_in q.path (t
 -- ## Key: "a held root's public key by keyid (32 bytes)"
 
 unfoldable pub public_of : Option Key → Bytes
-public_of none = zeros key_size
-public_of (some k) = k.public
+public_of None = zeros key_size
+public_of (Some k) = k.public
 
 unfoldable pub in_root : Bytes → Option Root → Bytes
-in_root k none = zeros key_size
-in_root k (some r) = public_of (key_of (undo k) r.keys)
+in_root k None = zeros key_size
+in_root k (Some r) = public_of (key_of (undo k) r.keys)
 
 unfoldable pub public_key : State → Bytes → Bytes
 public_key s k = cond (refuses (ask_key k) (answer s (ask_key k))) (zeros key_size) (in_root k s.root)
@@ -106,13 +107,13 @@ unfoldable pub no_entry : ℕ → EntryAsked
 no_entry n = record { answer = n; keyid = zeros key_size; sig = zeros signature_size }
 
 unfoldable pub nth : {A : Type 0} → ℕ → List A → Option A
-nth i [] = none
-nth zero (x ∷ xs) = some x
+nth i [] = None
+nth zero (x ∷ xs) = Some x
 nth (suc i) (x ∷ xs) = nth i xs
 
 unfoldable pub the_entry : Option Entry → EntryAsked
-the_entry none = no_entry 15
-the_entry (some e) = record { answer = 0; keyid = e.keyid; sig = e.sig }
+the_entry None = no_entry 15
+the_entry (Some e) = record { answer = 0; keyid = e.keyid; sig = e.sig }
 
 unfoldable pub entry_in : ℕ → Read Envelope → EntryAsked
 entry_in i (refused f) = no_entry (fault_number f)

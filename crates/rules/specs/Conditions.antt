@@ -1,5 +1,6 @@
 -- The conditions of 01's table, as tests, in the order of their numbers.
-use Rattle.std.proofs.Math.Option.{Option, none, some}
+use Rattle.std.specs.declared.option.Option.{Option}
+use Rattle.std.specs.declared.option.Option.TheVariants.{None, Some}
 use Rattle.std.specs.Prelude.{Bool, true, false, cond, not, ◌&&◌, ◌||◌, List, [], ◌∷◌, ℕ, ltb, eqb, length}
 use Rattle.base.specs.Bytes.{Bytes, bytes, same}
 use Rattle.rules.specs.Limits.{digest_size}
@@ -27,16 +28,16 @@ other_version a b = not (eqb a b)
 
 -- what a list of names says of a name
 unfoldable pub listed_as : Bytes → List Named → Option Listed
-listed_as name [] = none
-listed_as name (n ∷ ns) = cond (same name n.name) (some n.listed) (listed_as name ns)
+listed_as name [] = None
+listed_as name (n ∷ ns) = cond (same name n.name) (Some n.listed) (listed_as name ns)
 
 -- What a snapshot says of `targets.json`. A well-formed one lists it; for another this is a version that no file has.
 unfoldable pub targets_entry : Snapshot → Listed
 targets_entry n = or_unlisted (listed_as (bytes "targets.json") n.names)
   where
     or_unlisted : Option Listed → Listed
-    or_unlisted none = record { version = 0; length = none; digest = none }
-    or_unlisted (some l) = l
+    or_unlisted None = record { version = 0; length = None; digest = None }
+    or_unlisted (Some l) = l
 
 -- "a current snapshot, whose version is the one the held timestamp lists"
 unfoldable pub stale_snapshot : State → Bool
@@ -74,8 +75,8 @@ too_few role entries row = ltb (count role entries row) role.threshold
 -- ## 13: "a listed version went back, or a name vanished"
 
 unfoldable pub fallen : Named → Option Listed → Bool
-fallen n none = true
-fallen n (some l) = ltb l.version n.listed.version
+fallen n None = true
+fallen n (Some l) = ltb l.version n.listed.version
 
 -- not "Every name in the held snapshot is still listed, with a version not lower"
 unfoldable pub lost : List Named → List Named → Bool
@@ -105,9 +106,9 @@ rotates_targets old new = rotates old new || rotated old.targets_role new.target
 -- ## 15: "not listed"
 
 unfoldable pub image_of : Bytes → List Image → Option Image
-image_of path [] = none
-image_of path (i ∷ is) = cond (same path i.path) (some i) (image_of path is)
+image_of path [] = None
+image_of path (i ∷ is) = cond (same path i.path) (Some i) (image_of path is)
 
 unfoldable pub key_of : Bytes → List Key → Option Key
-key_of k [] = none
-key_of k (x ∷ xs) = cond (same k x.keyid) (some x) (key_of k xs)
+key_of k [] = None
+key_of k (x ∷ xs) = cond (same k x.keyid) (Some x) (key_of k xs)

@@ -1,7 +1,7 @@
 -- For each call: all of its conditions, in 01's words ("Steps"). A call answers 0 exactly when they hold, and then the state, or what was
 -- asked for, is the one that is named here: demand 2 is the record `Demand2`. The crate history proves it.
 use Rattle.std.specs.Prelude.{◌≡◌, ◌↔◌, ◌⊎◌, true, List, ℕ, ◌+◌, ◌≤◌, ◌<◌, ℤ, length, ◌≤ℤ◌, ◌<ℤ◌}
-use Rattle.std.proofs.Math.Option.{some}
+use Rattle.std.specs.declared.option.Option.TheVariants.{Some}
 use Rattle.base.specs.Bytes.{Bytes}
 use Rattle.base.specs.Hex.{is_hex, undo}
 use Rattle.sha256.specs.Message.{digest_of}
@@ -19,20 +19,20 @@ use Rattle.rules.specs.Words.{GoodRow, GoodDigest, Enough, Expired, Keeps, Match
 -- held and not expired
 pub record LeansOnRoot (s : State) : Type 0 where
   pub root : Root
-  pub root_held : s.root ≡ some root
+  pub root_held : s.root ≡ Some root
   pub root_fresh : ¬ Expired root.expires s.start
 
 pub record LeansOnTimestamp (s : State) : Type 0 where
   pub on_root : LeansOnRoot s
   pub timestamp : Timestamp
-  pub timestamp_held : s.timestamp ≡ some timestamp
+  pub timestamp_held : s.timestamp ≡ Some timestamp
   pub timestamp_fresh : ¬ Expired timestamp.expires s.start
 
 -- a current snapshot
 pub record LeansOnSnapshot (s : State) : Type 0 where
   pub on_timestamp : LeansOnTimestamp s
   pub snapshot : Snapshot
-  pub snapshot_held : s.snapshot ≡ some snapshot
+  pub snapshot_held : s.snapshot ≡ Some snapshot
   pub snapshot_current : snapshot.version ≡ on_timestamp.timestamp.snapshot.version
   pub snapshot_fresh : ¬ Expired snapshot.expires s.start
 
@@ -40,7 +40,7 @@ pub record LeansOnSnapshot (s : State) : Type 0 where
 pub record LeansOnTargets (s : State) : Type 0 where
   pub on_snapshot : LeansOnSnapshot s
   pub targets : Targets
-  pub targets_held : s.targets ≡ some targets
+  pub targets_held : s.targets ≡ Some targets
   pub targets_current : targets.version ≡ (targets_entry on_snapshot.snapshot).version
   pub targets_fresh : ¬ Expired targets.expires s.start
 
@@ -58,7 +58,7 @@ pub record RootGood (s : State) (o : RootOffer) (r : Root) : Type 0 where
   pub held_row : GoodRow entries o.held_row
   pub own_row : GoodRow entries o.own_row
   pub held : Root
-  pub is_held : s.root ≡ some held
+  pub is_held : s.root ≡ Some held
   pub held_keys : Enough held.root_role entries o.held_row
   pub own_keys : Enough r.root_role entries o.own_row
   pub version : r.version ≡ held.version + 1
@@ -69,8 +69,8 @@ pub record TimestampGood (s : State) (o : FileOffer) (t : Timestamp) : Type 0 wh
   pub row : GoodRow entries o.row
   pub on : LeansOnRoot s
   pub keys : Enough on.root.timestamp_role entries o.row
-  pub newer : (h : Timestamp) → s.timestamp ≡ some h → h.version < t.version
-  pub not_lower : (h : Timestamp) → s.timestamp ≡ some h → h.snapshot.version ≤ t.snapshot.version
+  pub newer : (h : Timestamp) → s.timestamp ≡ Some h → h.version < t.version
+  pub not_lower : (h : Timestamp) → s.timestamp ≡ Some h → h.snapshot.version ≤ t.snapshot.version
   pub fresh : ¬ Expired t.expires s.start
 
 pub record SnapshotGood (s : State) (o : FileOffer) (n : Snapshot) : Type 0 where
@@ -81,7 +81,7 @@ pub record SnapshotGood (s : State) (o : FileOffer) (n : Snapshot) : Type 0 wher
   pub matches : Matches on.timestamp.snapshot (length o.file) (digest_of o.file)
   pub keys : Enough on.on_root.root.snapshot_role entries o.row
   pub version : n.version ≡ on.timestamp.snapshot.version
-  pub keeps : (h : Snapshot) → s.snapshot ≡ some h → Keeps h.names n.names
+  pub keeps : (h : Snapshot) → s.snapshot ≡ Some h → Keeps h.names n.names
   pub fresh : ¬ Expired n.expires s.start
 
 pub record TargetsGood (s : State) (o : FileOffer) (g : File (List Image)) : Type 0 where
@@ -102,13 +102,13 @@ pub record FindGood (s : State) (q : Query) (i : Image) : Type 0 where
   pub kept : digest_of q.file ≡ on.targets.digest
   pub not_empty : 1 ≤ length q.path
   pub not_long : length q.path ≤ max_path
-  pub listed : image_of q.path file.body ≡ some i
+  pub listed : image_of q.path file.body ≡ Some i
 
 pub record KeyGood (s : State) (k : Bytes) (x : Key) : Type 0 where
   pub root : Root
-  pub root_held : s.root ≡ some root
+  pub root_held : s.root ≡ Some root
   pub hex : is_hex key_size k ≡ true
-  pub listed : key_of (undo k) root.keys ≡ some x
+  pub listed : key_of (undo k) root.keys ≡ Some x
 
 -- given no state: "the found length and digest against the fetched ones"
 pub record ImageGood (listed fetched : Found) : Type 0 where
@@ -126,10 +126,10 @@ expires_of (a_snapshot n) = n.expires
 expires_of (a_targets g) = g.expires
 
 abbrev pub IsHeld : State → Item → Type 0
-IsHeld s (a_root r) = s.root ≡ some r
-IsHeld s (a_timestamp t) = s.timestamp ≡ some t
-IsHeld s (a_snapshot n) = s.snapshot ≡ some n
-IsHeld s (a_targets g) = s.targets ≡ some g
+IsHeld s (a_root r) = s.root ≡ Some r
+IsHeld s (a_timestamp t) = s.timestamp ≡ Some t
+IsHeld s (a_snapshot n) = s.snapshot ≡ Some n
+IsHeld s (a_targets g) = s.targets ≡ Some g
 
 -- the roles in the order in which calls lean on them
 abbrev pub rank : Item → ℕ
@@ -153,7 +153,7 @@ leans_up_to ask_state = 0
 -- a file whose date the call compares with the start time in force: a record that it leans on (7), or the file that it offers (14)
 pub data LooksAt (s : State) (c : Call) (x : Item) : Type 0 where
   leans_on : IsHeld s x → rank x ≤ leans_up_to c → LooksAt s c x
-  offers : offered c ≡ some x → 1 ≤ leans_up_to c → LooksAt s c x
+  offers : offered c ≡ Some x → 1 ≤ leans_up_to c → LooksAt s c x
 
 pub record FindsExpired (s : State) (c : Call) (x : Item) : Type 0 where
   pub looks : LooksAt s c x
@@ -167,7 +167,7 @@ pub record FindsFresh (s : State) (c : Call) (x : Item) : Type 0 where
 
 -- The held root was read from a file, so that no role names a key twice. It is so of every state of a history.
 abbrev pub RootRead : State → Type 0
-RootRead s = (r : Root) → s.root ≡ some r → (file : Bytes) × (entries : List Bytes) × (root_in file ≡ says r entries)
+RootRead s = (r : Root) → s.root ≡ Some r → (file : Bytes) × (entries : List Bytes) × (root_in file ≡ says r entries)
 
 -- of install, which is given no state
 pub record InstallExactly (o : Install) : Type 0 where
@@ -184,7 +184,7 @@ pub record Demand2 (s : State) : Type 0 where
   pub root : (o : RootOffer) → (answer s (new_root o) ≡ 0) ↔ ((r : Root) × RootGood s o r)
   pub root_after : (o : RootOffer) (r : Root) (g : RootGood s o r) → next s (new_root o) ≡ with_root s g.held r
   -- "Held 2,147,483,647: no next root exists", which A7 moves to its limit
-  pub no_next_root : (held : Root) → s.root ≡ some held → held.version ≡ max_version → (o : RootOffer) → ¬ (answer s (new_root o) ≡ 0)
+  pub no_next_root : (held : Root) → s.root ≡ Some held → held.version ≡ max_version → (o : RootOffer) → ¬ (answer s (new_root o) ≡ 0)
   pub timestamp : (o : FileOffer) → (answer s (new_timestamp o) ≡ 0) ↔ ((t : Timestamp) × TimestampGood s o t)
   pub timestamp_after : (o : FileOffer) (t : Timestamp) → TimestampGood s o t → next s (new_timestamp o) ≡ with_timestamp s t
   pub snapshot : (o : FileOffer) → (answer s (new_snapshot o) ≡ 0) ↔ ((n : Snapshot) × SnapshotGood s o n)

@@ -1,6 +1,7 @@
 -- The forms of 01 ("Forms"), in its order: what a JSON value of each form says; nothing where the form is broken. Members that no form
 -- names are passed over.
-use Rattle.std.proofs.Math.Option.{Option, none, some}
+use Rattle.std.specs.declared.option.Option.{Option}
+use Rattle.std.specs.declared.option.Option.TheVariants.{None, Some}
 use Rattle.std.specs.Prelude.{List, [], ◌∷◌, map, Bool, true, false, not, ◌&&◌, ◌||◌, ℕ, leb, length, take}
 use Rattle.base.specs.Bytes.{Bytes, bytes, same}
 use Rattle.base.specs.Hex.{hex_of}
@@ -31,7 +32,7 @@ unfoldable pub entry : Json → Option Entry
 entry v =
     must (bytes "keyid") (hex key_size) v >>= λ keyid.
     must (bytes "sig") (hex signature_size) v >>= λ sig.
-    some (record { keyid = keyid; sig = sig })
+    Some (record { keyid = keyid; sig = sig })
 
 unfoldable pub entries : Json → Option (List Entry)
 entries v = items v >>= λ xs. keep (leb (size xs) max_entries) xs >>= each entry
@@ -50,7 +51,7 @@ envelope v =
     lookup (bytes "signed") ms >>= λ signed.
     members signed >>= λ _.
     place_of (bytes "signed") ms >>= λ start.
-    some (record { entries = es; signed = signed; start = start; length = length (put signed []) })
+    Some (record { entries = es; signed = signed; start = start; length = length (put signed []) })
 
 -- ## Every role: "_type" with its name, "spec_version", "version", "expires"
 
@@ -69,7 +70,7 @@ file_of type body v =
     version v >>= λ version.
     must (bytes "expires") date v >>= λ expires.
     body v >>= λ body.
-    some (record { spec_version = spec_version; version = version; expires = expires; body = body })
+    Some (record { spec_version = spec_version; version = version; expires = expires; body = body })
 
 -- ## Root
 
@@ -80,7 +81,7 @@ key keyid v =
     must (bytes "keytype") (word (bytes "ed25519")) v >>= λ _.
     must (bytes "scheme") (word (bytes "ed25519")) v >>= λ _.
     must (bytes "keyval") (must (bytes "public") (hex key_size)) v >>= λ public.
-    some (record { keyid = keyid; public = public })
+    Some (record { keyid = keyid; public = public })
 
 -- "keys, 1 to 16"; "no two keyids of one file may have the same public value"
 unfoldable pub keys : Json → Option (List Key)
@@ -101,8 +102,8 @@ own_keyids (mcons keyid key ms) = same keyid (keyid_of key) && own_keyids ms
 
 -- the same of a member that may be no table, which is a broken form and said before
 unfoldable pub own_table : Option Members → Bool
-own_table none = true
-own_table (some ms) = own_keyids ms
+own_table None = true
+own_table (Some ms) = own_keyids ms
 
 -- "1 to 16 different keyids from the key table and a threshold from 1 to the number of those keyids"
 unfoldable pub role : List Bytes → Json → Option Role
@@ -112,7 +113,7 @@ role table v =
     each (hex key_size) xs >>= λ keyids.
     keep (different keyids && all_of (λ k. is_in k table) keyids) keyids >>= λ keyids.
     must (bytes "threshold") (number 1 (length keyids)) v >>= λ threshold.
-    some (record { keyids = keyids; threshold = threshold })
+    Some (record { keyids = keyids; threshold = threshold })
 
 -- "consistent_snapshot true or false"; "roles with root, timestamp, snapshot and targets"; "Other role names are passed over"
 unfoldable pub root : Json → Option Root
@@ -124,7 +125,7 @@ root v =
     must (bytes "timestamp") (role (map (λ (k : Key). k.keyid) keys)) roles >>= λ timestamp_role.
     must (bytes "snapshot") (role (map (λ (k : Key). k.keyid) keys)) roles >>= λ snapshot_role.
     must (bytes "targets") (role (map (λ (k : Key). k.keyid) keys)) roles >>= λ targets_role.
-    some (record {
+    Some (record {
       consistent_snapshot = consistent_snapshot;
       keys = keys;
       root_role = root_role;
@@ -149,7 +150,7 @@ listed v =
     version v >>= λ version.
     may (bytes "length") (number 0 max_length) v >>= λ length.
     may (bytes "hashes") sha256 v >>= λ digest.
-    some (record { version = version; length = length; digest = digest })
+    Some (record { version = version; length = length; digest = digest })
 
 -- "meta with the one name `snapshot.json`"
 unfoldable pub timestamp : Json → Option Listed
@@ -159,7 +160,7 @@ unfoldable pub named : Bytes → Json → Option Named
 named name v =
     name_of max_name name >>= λ name.
     listed v >>= λ listed.
-    some (record { name = name; listed = listed })
+    Some (record { name = name; listed = listed })
 
 -- "meta with 1 to 32 names of 1 to 32 bytes, `targets.json` among them"
 unfoldable pub names : Json → Option (List Named)
@@ -180,7 +181,7 @@ image path v =
     name_of max_path path >>= λ path.
     must (bytes "length") (number 0 max_length) v >>= λ length.
     must (bytes "hashes") sha256 v >>= λ digest.
-    some (record { path = path; length = length; digest = digest })
+    Some (record { path = path; length = length; digest = digest })
 
 -- "targets, 0 to 256 names of 1 to 128 bytes"
 unfoldable pub images : Json → Option (List Image)

@@ -1,6 +1,6 @@
 -- A whole history, and what is claimed of it (01, "A whole history"): demand 3 is the record `Demand3`. The crate history proves it.
 use Rattle.std.specs.Prelude.{◌≡◌, ◌↔◌, ◌⊎◌, ℕ, ◌+◌, ◌≤◌, ◌<◌, ℤ, length, ◌≤ℤ◌}
-use Rattle.std.proofs.Math.Option.{some}
+use Rattle.std.specs.declared.option.Option.TheVariants.{Some}
 use mathlib.Core.List.{List, [], ◌∷◌, ◌++◌, map, Memᴰ}
 use Rattle.base.specs.Bytes.{Bytes}
 use Rattle.sha256.specs.Message.{digest_of}
@@ -45,7 +45,7 @@ happened h = begins h.install ∷ events (installed h.install) h.calls
 pub data BecomesTrusted : Event → Item → Type 0 where
   at_install : {o : Install} {r : Root} {entries : List Bytes} → root_in o.file ≡ says r entries → install_answer o ≡ 0
       → BecomesTrusted (begins o) (a_root r)
-  at_call : {s : State} {c : Call} {x : Item} → offered c ≡ some x → answer s c ≡ 0 → BecomesTrusted (calls s c) x
+  at_call : {s : State} {c : Call} {x : Item} → offered c ≡ Some x → answer s c ≡ 0 → BecomesTrusted (calls s c) x
 
 abbrev pub listed_versions : List Named → List ℕ
 listed_versions ns = map (λ (n : Named). n.listed.version) ns
@@ -59,7 +59,7 @@ versions_of (a_targets g) = g.version ∷ []
 
 -- a root that becomes trusted and differs in this way from the one held before
 pub data Replaces (Differs : Root → Root → Type 0) : Event → Type 0 where
-  replaces : {s : State} {c : Call} {old new : Root} → s.root ≡ some old → BecomesTrusted (calls s c) (a_root new)
+  replaces : {s : State} {c : Call} {old new : Root} → s.root ≡ Some old → BecomesTrusted (calls s c) (a_root new)
       → Differs old new → Replaces Differs (calls s c)
 
 -- "Timestamp or snapshot keys are rotated"
@@ -217,10 +217,10 @@ pub record Honest (s : State) (held : Root) (p : Plan) : Type 0 where
   pub targets_keys : Enough (last_root held p.roots).targets_role p.targets.entries p.targets.offer.row
   -- "The timestamp is above the held one, its snapshot version not below the held timestamp's; the snapshot lists every name of the
   -- held one, none lower; both only where one is then held"
-  pub newer : (t : Timestamp) → (at_timestamp s p).timestamp ≡ some t → t.version < p.timestamp.file.version
-  pub not_lower : (t : Timestamp) → (at_timestamp s p).timestamp ≡ some t
+  pub newer : (t : Timestamp) → (at_timestamp s p).timestamp ≡ Some t → t.version < p.timestamp.file.version
+  pub not_lower : (t : Timestamp) → (at_timestamp s p).timestamp ≡ Some t
       → t.snapshot.version ≤ p.timestamp.file.snapshot.version
-  pub keeps : (n : Snapshot) → (at_snapshot s p).snapshot ≡ some n → Keeps n.names p.snapshot.file.names
+  pub keeps : (n : Snapshot) → (at_snapshot s p).snapshot ≡ Some n → Keeps n.names p.snapshot.file.names
   -- "Snapshot and targets have the version listed, and length and digest where listed"
   pub snapshot_version : p.snapshot.file.version ≡ p.timestamp.file.snapshot.version
   pub snapshot_matches : Matches p.timestamp.file.snapshot (length p.snapshot.offer.file) (digest_of p.snapshot.offer.file)
@@ -242,10 +242,10 @@ pub record Through (s : State) (held : Root) (p : Plan) : Type 0 where
   pub timestamp : answer (at_timestamp s p) (new_timestamp p.timestamp.offer) ≡ 0
   pub snapshot : answer (at_snapshot s p) (new_snapshot p.snapshot.offer) ≡ 0
   pub targets : answer (at_targets s p) (new_targets p.targets.offer) ≡ 0
-  pub holds_root : (at_end s p).root ≡ some (last_root held p.roots)
-  pub holds_timestamp : (at_end s p).timestamp ≡ some p.timestamp.file
-  pub holds_snapshot : (at_end s p).snapshot ≡ some p.snapshot.file
-  pub holds_targets : (at_end s p).targets ≡ some (keep_targets p.targets.offer.file p.targets.file)
+  pub holds_root : (at_end s p).root ≡ Some (last_root held p.roots)
+  pub holds_timestamp : (at_end s p).timestamp ≡ Some p.timestamp.file
+  pub holds_snapshot : (at_end s p).snapshot ≡ Some p.snapshot.file
+  pub holds_targets : (at_end s p).targets ≡ Some (keep_targets p.targets.offer.file p.targets.file)
 
 -- ## The claim
 
@@ -258,12 +258,12 @@ pub record Demand3 (h : History) : Type 0 where
   pub given : (before : List Call) (c : Call) (after : List Call) → h.calls ≡ before ++ (c ∷ after)
       → (rest : List Event) × (happened h ≡ happened (up_to h before) ++ (calls (end (up_to h before)) c ∷ rest))
   -- The state at its end holds what the history says is held.
-  pub held_root : (r : Root) → ((end h).root ≡ some r) ↔ LastOf (happened h) (a_root r) (Another a_root)
-  pub held_timestamp : (t : Timestamp) → ((end h).timestamp ≡ some t)
+  pub held_root : (r : Root) → ((end h).root ≡ Some r) ↔ LastOf (happened h) (a_root r) (Another a_root)
+  pub held_timestamp : (t : Timestamp) → ((end h).timestamp ≡ Some t)
       ↔ LastOf (happened h) (a_timestamp t) (AnotherOr a_timestamp Rotation)
-  pub held_snapshot : (n : Snapshot) → ((end h).snapshot ≡ some n)
+  pub held_snapshot : (n : Snapshot) → ((end h).snapshot ≡ Some n)
       ↔ LastOf (happened h) (a_snapshot n) (AnotherOr a_snapshot Rotation)
-  pub held_targets : (g : Targets) → ((end h).targets ≡ some g)
+  pub held_targets : (g : Targets) → ((end h).targets ≡ Some g)
       ↔ LastOf (happened h) (a_targets g) (AnotherOr a_targets AnyRotation)
   -- A1: every key of a root that became trusted has the digest of its text as its keyid; so a keyid stands for one key in all of them,
   -- unless two texts have one digest.
@@ -285,7 +285,7 @@ pub record Demand3 (h : History) : Type 0 where
   pub root_exactly : (s : State) (o : RootOffer) (r : Root) (entries : List Bytes) → Memᴰ (calls s (new_root o)) (happened h)
       → root_in o.file ≡ says r entries → GoodRow entries o.held_row → GoodRow entries o.own_row
       → (held : Root)
-      × (s.root ≡ some held)
+      × (s.root ≡ Some held)
       × (BecomesTrusted (calls s (new_root o)) (a_root r)
       ↔ ((r.version ≡ held.version + 1)
       × Enough held.root_role entries o.held_row
@@ -305,4 +305,4 @@ pub record Demand3 (h : History) : Type 0 where
   pub targets_rise : (e₁ e₂ : Event) (between : List Event) (g₁ g₂ : Targets) → Apart (happened h) e₁ between e₂
       → Unrotated between → BecomesTrusted e₁ (a_targets g₁) → BecomesTrusted e₂ (a_targets g₂) → g₁.version ≤ g₂.version
   -- After the history an honest publisher gets through.
-  pub publisher : (held : Root) × ((end h).root ≡ some held) × ((p : Plan) → Honest (end h) held p → Through (end h) held p)
+  pub publisher : (held : Root) × ((end h).root ≡ Some held) × ((p : Plan) → Honest (end h) held p → Through (end h) held p)

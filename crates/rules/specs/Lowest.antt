@@ -1,7 +1,7 @@
 -- "The lowest number whose condition holds, of those the call uses; 0 if none", as a statement of every answer: the record `Lowest`. A1's 16
 -- alone is "tried between 3 and 4". The crate history proves it.
 use Rattle.std.specs.Prelude.{◌≡◌, ◌↔◌, ◌⊎◌, Bool, true, false, ℕ, ◌≤◌, ◌<◌, ℤ, length}
-use Rattle.std.proofs.Math.Option.{some}
+use Rattle.std.specs.declared.option.Option.TheVariants.{Some}
 use mathlib.Core.List.{List, Memᴰ}
 use Rattle.base.specs.Bytes.{Bytes, bytes}
 use Rattle.canonical_json.specs.Json.{Json}
@@ -31,9 +31,9 @@ pub record OtherKeyid (file : Bytes) : Type 0 where
   pub envelope-is : Envelope
   pub says : File Root
   pub fits : length file ≤ max_file
-  pub text : parsed file ≡ some value
-  pub opens : envelope value ≡ some envelope-is
-  pub form : file_of (bytes "root") root envelope-is.signed ≡ some says
+  pub text : parsed file ≡ Some value
+  pub opens : envelope value ≡ Some envelope-is
+  pub form : file_of (bytes "root") root envelope-is.signed ≡ Some says
   pub broken : root_keyids envelope-is.signed ≡ false
 
 pub record Lowest : Type 0 where

@@ -1,6 +1,7 @@
 -- Reading a file (01, refusals 1 to 4, and A1's 16 "tried between 3 and 4"): from its bytes to what it says. 3 is said before 16 and 4 whatever
 -- the order of its members.
-use Rattle.std.proofs.Math.Option.{Option, none, some}
+use Rattle.std.specs.declared.option.Option.{Option}
+use Rattle.std.specs.declared.option.Option.TheVariants.{None, Some}
 use Rattle.std.specs.Prelude.{List, [], ◌∷◌, map, Bool, true, cond, leb, length}
 use Rattle.base.specs.Bytes.{Bytes, bytes}
 use Rattle.canonical_json.specs.Json.{Json, max_depth}
@@ -13,9 +14,9 @@ use Rattle.rules.specs.Forms.{Envelope, envelope, known_spec, file_of, root, roo
 
 -- nothing follows the value
 unfoldable pub whole : Got Json → Option Json
-whole bad = none
-whole (got v []) = some v
-whole (got v (b ∷ r)) = none
+whole bad = None
+whole (got v []) = Some v
+whole (got v (b ∷ r)) = None
 
 -- The value of a canonical text. The law `parsed-exactly` says that it is just the valid value that has this text.
 unfoldable pub parsed : Bytes → Option Json
@@ -24,8 +25,8 @@ parsed file = whole (read max_depth file)
 -- ## Refusals 1 to 3: what a form gives of a file, or why it gives nothing
 
 unfoldable pub judged_text : {A : Type 0} → (Json → Read A) → Option Json → Read A
-judged_text f none = refused not_text
-judged_text f (some v) = f v
+judged_text f None = refused not_text
+judged_text f (Some v) = f v
 
 unfoldable pub read_with : {A : Type 0} → (Json → Read A) → Bytes → Read A
 read_with f file = cond (leb (length file) max_file) (judged_text f (parsed file)) (refused too_long)
@@ -36,8 +37,8 @@ keyids_of es = map (λ (e : Entry). e.keyid) es
 -- ## The envelope alone: "Looking in asks only for the envelope, refusals 1 to 3"
 
 unfoldable pub opened : Option Envelope → Read Envelope
-opened none = refused bad_form
-opened (some e) = says e (keyids_of e.entries)
+opened None = refused bad_form
+opened (Some e) = says e (keyids_of e.entries)
 
 unfoldable pub read_envelope : Bytes → Read Envelope
 read_envelope file = read_with (λ v. opened (envelope v)) file
@@ -50,12 +51,12 @@ known e f = cond (known_spec f.spec_version) (says f (keyids_of e.entries)) (ref
 
 -- where its key table has the keyids of its keys
 unfoldable pub spoken : {A : Type 0} → Envelope → Bool → Option (File A) → Read (File A)
-spoken e own none = refused bad_form
-spoken e own (some f) = cond own (known e f) (refused other_keyid)
+spoken e own None = refused bad_form
+spoken e own (Some f) = cond own (known e f) (refused other_keyid)
 
 unfoldable pub in_envelope : {A : Type 0} → (Json → Option (File A)) → (Json → Bool) → Option Envelope → Read (File A)
-in_envelope form keyids none = refused bad_form
-in_envelope form keyids (some e) = spoken e (keyids e.signed) (form e.signed)
+in_envelope form keyids None = refused bad_form
+in_envelope form keyids (Some e) = spoken e (keyids e.signed) (form e.signed)
 
 -- the file of a role, by its "_type", the form of its body and the test of its key table
 unfoldable pub read_as : {A : Type 0} → Bytes → (Json → Option A) → (Json → Bool) → Bytes → Read (File A)

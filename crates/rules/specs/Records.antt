@@ -1,6 +1,6 @@
 -- What the files of the four roles say (01, "Forms"). Keyids, public keys and digests are held as bytes, their hex undone; names and
 -- paths with their escapes undone.
-use Rattle.std.proofs.Math.Option.{Option}
+use Rattle.std.specs.declared.option.Option.{Option}
 use Rattle.std.specs.Prelude.{Bool, List, ℕ, ℤ}
 use Rattle.base.specs.Bytes.{Bytes}
 

@@ -1,7 +1,8 @@
 -- The search of a targets list (02, A2): "names rise, so the search can stop at the first that is not smaller than the path". The law `early-stop`
 -- says that on rising names it answers as the whole search, and `targets-rise` that the names of a targets file rise.
 use Rattle.std.specs.Prelude.{◌≡◌, true, cond, List, [], ◌∷◌, map, ℕ, ◌+◌, ltb, length}
-use Rattle.std.proofs.Math.Option.{Option, none}
+use Rattle.std.specs.declared.option.Option.{Option}
+use Rattle.std.specs.declared.option.Option.TheVariants.{None}
 use Rattle.base.specs.Bytes.{Bytes, same, less}
 use Rattle.canonical_json.specs.Fields.{keep}
 use Rattle.rules.specs.Records.{Image}
@@ -33,7 +34,7 @@ after r = record { image = r.image; compared = 1 + r.compared }
 
 -- it goes on past a smaller name, and ends with the first other one
 unfoldable pub stopping : Bytes → List Image → Search
-stopping path [] = record { image = none; compared = 0 }
+stopping path [] = record { image = None; compared = 0 }
 stopping path (i ∷ is) =
     cond (less i.path path) (after (stopping path is)) (record { image = keep (same path i.path) i; compared = 1 })
 

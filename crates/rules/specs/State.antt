@@ -1,5 +1,6 @@
 -- The trusted state: what the controller keeps of the files that became trusted (01, "Steps"), and the calls that are given it.
-use Rattle.std.proofs.Math.Option.{Option, none}
+use Rattle.std.specs.declared.option.Option.{Option}
+use Rattle.std.specs.declared.option.Option.TheVariants.{None}
 use Rattle.std.specs.Prelude.{Bool, cond, List, [], ◌∷◌, map, ℕ, ℤ, negsuc}
 use Rattle.base.specs.Bytes.{Bytes}
 use Rattle.sha256.specs.Message.{digest_of}
@@ -47,7 +48,7 @@ pub record State : Type 0 where
 -- "the blank state, which holds no record and has the lowest signed 64-bit count as its start time"
 unfoldable pub blank : State
 blank =
-    record { root = none; timestamp = none; snapshot = none; targets = none; start = negsuc 0x7fff_ffff_ffff_ffff }
+    record { root = None; timestamp = None; snapshot = None; targets = None; start = negsuc 0x7fff_ffff_ffff_ffff }
 
 -- ## From what a file says to what is kept
 

@@ -1,7 +1,8 @@
 -- The answer of each call and the state after it (01, "Steps"). The refusals of a call are 01's table, cut to the numbers that the call
 -- uses, with its conditions written out.
 use Rattle.std.specs.Prelude.{◌≡◌, Bool, true, false, cond, not, List, [], ◌∷◌, ℕ, ◌+◌, leb, ltb, eqb, ℤ, length}
-use Rattle.std.proofs.Math.Option.{Option, none, some}
+use Rattle.std.specs.declared.option.Option.{Option}
+use Rattle.std.specs.declared.option.Option.TheVariants.{None, Some}
 use Rattle.base.specs.Bytes.{Bytes, same}
 use Rattle.base.specs.Hex.{is_hex, undo}
 use Rattle.sha256.specs.Message.{digest_of}
@@ -155,14 +156,14 @@ with_start s start =
     record { root = s.root; timestamp = s.timestamp; snapshot = s.snapshot; targets = s.targets; start = start }
 
 abbrev pub drop_if : {A : Type 0} → Bool → Option A → Option A
-drop_if true o = none
+drop_if true o = None
 drop_if false o = o
 
 -- a root drops the records whose keys it rotates
 unfoldable pub with_root : State → Root → Root → State
 with_root s old new =
     record {
-      root = some new;
+      root = Some new;
       timestamp = drop_if (rotates old new) s.timestamp;
       snapshot = drop_if (rotates old new) s.snapshot;
       targets = drop_if (rotates_targets old new) s.targets;
@@ -171,15 +172,15 @@ with_root s old new =
 
 unfoldable pub with_timestamp : State → Timestamp → State
 with_timestamp s t =
-    record { root = s.root; timestamp = some t; snapshot = s.snapshot; targets = s.targets; start = s.start }
+    record { root = s.root; timestamp = Some t; snapshot = s.snapshot; targets = s.targets; start = s.start }
 
 unfoldable pub with_snapshot : State → Snapshot → State
 with_snapshot s n =
-    record { root = s.root; timestamp = s.timestamp; snapshot = some n; targets = s.targets; start = s.start }
+    record { root = s.root; timestamp = s.timestamp; snapshot = Some n; targets = s.targets; start = s.start }
 
 unfoldable pub with_targets : State → Targets → State
 with_targets s g =
-    record { root = s.root; timestamp = s.timestamp; snapshot = s.snapshot; targets = some g; start = s.start }
+    record { root = s.root; timestamp = s.timestamp; snapshot = s.snapshot; targets = Some g; start = s.start }
 
 -- a file that becomes trusted: of a targets file, what is kept of it
 pub data Item : Type 0 where
@@ -190,8 +191,8 @@ pub data Item : Type 0 where
 
 -- a root after the one that is held
 unfoldable pub after_root : State → Option Root → Root → State
-after_root s none new = s
-after_root s (some old) new = with_root s old new
+after_root s None new = s
+after_root s (Some old) new = with_root s old new
 
 -- the one place where a trusted file enters the state
 unfoldable pub trusting : State → Item → State
@@ -202,18 +203,18 @@ trusting s (a_targets g) = with_targets s g
 
 -- the file that a call offers, where it can be read
 unfoldable pub what_says : {A : Type 0} → (A → Item) → Read A → Option Item
-what_says f (refused x) = none
-what_says f (says a es) = some (f a)
+what_says f (refused x) = None
+what_says f (says a es) = Some (f a)
 
 unfoldable pub offered : Call → Option Item
-offered (new_cycle t) = none
+offered (new_cycle t) = None
 offered (new_root o) = what_says a_root (root_in o.file)
 offered (new_timestamp o) = what_says a_timestamp (timestamp_in o.file)
 offered (new_snapshot o) = what_says a_snapshot (snapshot_in o.file)
 offered (new_targets o) = what_says (λ g. a_targets (keep_targets o.file g)) (targets_in o.file)
-offered (find q) = none
-offered (ask_key k) = none
-offered ask_state = none
+offered (find q) = None
+offered (ask_key k) = None
+offered ask_state = None
 
 unfoldable pub started : State → Call → State
 started s (new_cycle t) = with_start s t
@@ -226,8 +227,8 @@ started s (ask_key k) = s
 started s ask_state = s
 
 unfoldable pub trusting_if : State → Option Item → State
-trusting_if s none = s
-trusting_if s (some x) = trusting s x
+trusting_if s None = s
+trusting_if s (Some x) = trusting s x
 
 -- what a call does to the state where it is not refused
 unfoldable pub accepted : State → Call → State
@@ -240,7 +241,7 @@ next s c = cond (refuses c (answer s c)) s (accepted s c)
 -- ## Install: "begins a new history, and a refused one returns the blank state"
 
 unfoldable pub root_alone : Root → ℤ → State
-root_alone r start = record { root = some r; timestamp = none; snapshot = none; targets = none; start = start }
+root_alone r start = record { root = Some r; timestamp = None; snapshot = None; targets = None; start = start }
 
 unfoldable pub begun : Read Root → ℤ → State
 begun (refused f) start = blank

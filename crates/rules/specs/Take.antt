@@ -1,6 +1,8 @@
 -- Taking a JSON value apart: each step gives what it looks for, or nothing.
 use Rattle.std.specs.Prelude.{List, [], ◌∷◌, ◌&&◌, ℕ, leb, length, ℤ}
-use Rattle.std.proofs.Math.Option.{Option, none, some, bind}
+use Rattle.std.specs.declared.option.Option.{Option}
+use Rattle.std.specs.declared.option.Option.TheVariants.{None, Some}
+use Rattle.canonical_json.specs.Options.{bind}
 use Rattle.base.specs.Bytes.{Bytes, same}
 use Rattle.base.specs.Hex.{is_hex, undo}
 use Rattle.canonical_json.specs.Json.{Json, Items, inil, icons, Members, mnil, mcons}
@@ -20,8 +22,8 @@ must k f v = field k v >>= f
 
 -- what is read in a member, where there is that member
 unfoldable pub inside : {A : Type 0} → (Json → Option A) → Option Json → Option (Option A)
-inside f none = some none
-inside f (some w) = f w >>= λ a. some (some a)
+inside f None = Some None
+inside f (Some w) = f w >>= λ a. Some (Some a)
 
 -- a member that may be missing; where it is there it has its form
 unfoldable pub may : {A : Type 0} → Bytes → (Json → Option A) → Json → Option (Option A)
@@ -29,9 +31,9 @@ may k f v = inside f (field k v)
 
 -- the value of an object's one member, which has that name
 unfoldable pub single : Bytes → Members → Option Json
-single k mnil = none
+single k mnil = None
 single k (mcons n v mnil) = keep (same n k) v
-single k (mcons n v (mcons m w ms)) = none
+single k (mcons n v (mcons m w ms)) = None
 
 -- what is read in that one member
 unfoldable pub sole : {A : Type 0} → Bytes → (Json → Option A) → Json → Option A
@@ -41,13 +43,13 @@ sole k f v = members v >>= λ ms. single k ms >>= f
 
 -- each element of an array
 unfoldable pub each : {A : Type 0} → (Json → Option A) → Items → Option (List A)
-each f inil = some []
-each f (icons v vs) = f v >>= λ a. each f vs >>= λ more. some (a ∷ more)
+each f inil = Some []
+each f (icons v vs) = f v >>= λ a. each f vs >>= λ more. Some (a ∷ more)
 
 -- each member of an object
 unfoldable pub each_named : {A : Type 0} → (Bytes → Json → Option A) → Members → Option (List A)
-each_named f mnil = some []
-each_named f (mcons n v ms) = f n v >>= λ a. each_named f ms >>= λ more. some (a ∷ more)
+each_named f mnil = Some []
+each_named f (mcons n v ms) = f n v >>= λ a. each_named f ms >>= λ more. Some (a ∷ more)
 
 -- ## Strings
 

@@ -1,6 +1,6 @@
 -- The paper's words as statements, apart from the tests that decide them.
 use Rattle.std.specs.Prelude.{◌≡◌, ◌↔◌, ◌⊎◌, ℕ, ◌≤◌, ℤ, length, ◌≤ℤ◌}
-use Rattle.std.proofs.Math.Option.{some}
+use Rattle.std.specs.declared.option.Option.TheVariants.{Some}
 use mathlib.Core.List.{List, [], ◌∷◌, Memᴰ}
 use Rattle.base.specs.Bytes.{Bytes}
 use Rattle.sha256.specs.Message.{digest_of}
@@ -49,7 +49,7 @@ pub record OwnKeyid (k : Key) : Type 0 where
   pub value : Json
   pub depth : ℕ
   pub valid : Valid value depth
-  pub says : key (keyid_of value) value ≡ some k
+  pub says : key (keyid_of value) value ≡ Some k
   pub digest : k.keyid ≡ digest_of (put value [])
 
 -- two texts of one digest
@@ -88,9 +88,9 @@ Expired expires start = expires ≤ℤ start
 -- every name of the first list is in the second, none lower
 abbrev pub Keeps : List Named → List Named → Type 0
 Keeps old new =
-    (n : Named) → Memᴰ n old → (l : Listed) × (listed_as n.name new ≡ some l) × (n.listed.version ≤ l.version)
+    (n : Named) → Memᴰ n old → (l : Listed) × (listed_as n.name new ≡ Some l) × (n.listed.version ≤ l.version)
 
 -- "Length and digest are compared where listed"
 pub record Matches (l : Listed) (length : ℕ) (digest : Bytes) : Type 0 where
-  pub length-is : (n : ℕ) → l.length ≡ some n → length ≡ n
-  pub digest-is : (d : Bytes) → l.digest ≡ some d → digest ≡ d
+  pub length-is : (n : ℕ) → l.length ≡ Some n → length ≡ n
+  pub digest-is : (d : Bytes) → l.digest ≡ Some d → digest ≡ d

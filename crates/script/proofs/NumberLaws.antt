@@ -1,6 +1,7 @@
 -- Digits one after the other, with n before those at a place; times from the numbers that were read.
 use mathlib.Core.Path.{◌≡◌, refl, sym, ap, ◌∙◌}
-use mathlib.Core.Option.{Option, none, some}
+use Rattle.std.specs.declared.option.Option.{Option}
+use Rattle.std.specs.declared.option.Option.TheVariants.{None, Some}
 use mathlib.Core.Bool.{true, false, and-false}
 use Prim.Native.Nat.{ℕ, zero, suc, ◌≤◌, ◌<◌, ◌+◌, ◌-◌, ◌*◌}
 use native.Mathlib.Omega.{arith}
@@ -18,15 +19,15 @@ use Rattle.script.specs.declared.Number.{Number}
 use Rattle.script.specs.Numbers.{digits, number, through, below, time, view_number}
 
 module _ (most : ℕ) (s : Bytes) (i n : ℕ) where
-  pub digits-spent : length s ≤ i → digits most n (drop i s) ≡ some n
+  pub digits-spent : length s ≤ i → digits most n (drop i s) ≡ Some n
   unfolding digits
   digits-spent h = rw (at-end s i h)
 
-  pub digits-other : i < length s → is_digit (get_or s i 0) ≡ false → digits most n (drop i s) ≡ none
+  pub digits-other : i < length s → is_digit (get_or s i 0) ≡ false → digits most n (drop i s) ≡ None
   unfolding digits
   digits-other h f = rw (at-cons s i h) (simp f)
 
-  pub digits-over : i < length s → most < n * 10 + (get_or s i 0 - 48) → digits most n (drop i s) ≡ none
+  pub digits-over : i < length s → most < n * 10 + (get_or s i 0 - 48) → digits most n (drop i s) ≡ None
   unfolding digits
   digits-over h f = rw (at-cons s i h, lt-leb (n * 10 + (get_or s i 0 - 48)) most f, and-false)
 
@@ -39,7 +40,7 @@ module _ (most : ℕ) (s : Bytes) (i n : ℕ) where
 -- ## Numbers, from a place on
 
 module _ (most : ℕ) (s : Bytes) (at : ℕ) where
-  pub number-none : length s ≤ at → number most (drop at s) ≡ none
+  pub number-none : length s ≤ at → number most (drop at s) ≡ None
   unfolding number
   number-none h = rw (at-end s at h)
 
@@ -50,11 +51,11 @@ module _ (most : ℕ) (s : Bytes) (at : ℕ) where
 -- ## Times
 
 module _ {B : Type 0} (f : ℕ → B) (r : Number) (o : Option ℕ) (v : view_number r ≡ o) where
-  pub through-none : r.ok ≡ false → through f o ≡ none
+  pub through-none : r.ok ≡ false → through f o ≡ None
   unfolding through view_number keep
   through-none e = rw (sym v, e)
 
-  pub through-some : r.ok ≡ true → through f o ≡ some (f r.value)
+  pub through-some : r.ok ≡ true → through f o ≡ Some (f r.value)
   unfolding through view_number keep
   through-some e = rw (sym v, e)
 
@@ -91,7 +92,7 @@ pub small_is : (n : ℕ) → n ≤ 9223372036854775807 → to_z w64 n ≡ pos n
 small_is n h = to_z_pos w64 {n = n} (omega arith)
 
 module _ (s : Bytes) where
-  pub time-none : length s ≡ 0 → time s ≡ none
+  pub time-none : length s ≡ 0 → time s ≡ None
   unfolding time
   time-none h = rw (at-end s 0 (omega arith))
 

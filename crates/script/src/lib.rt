@@ -5,7 +5,6 @@
 ghost use Rattle.std.specs.Prelude.{◌≡◌, ◌+◌, ◌≤◌, length, drop, pos};
 ghost use Rattle.script.specs.Words.{first, behind, word as word_of, words as words_of};
 ghost use Rattle.std.specs.Fmt.{decimal as decimal_of};
-ghost use Rattle.std.proofs.Math.Option.{none};
 ghost use Rattle.script.specs.Numbers.{digits as digits_of, number as number_of, time as time_of, through, below, view_number, view_moment};
 
 use date::Time;
@@ -83,7 +82,7 @@ pub struct Moment {
 }
 
 fn no_number() -> Number
-    ensures { (view_number result ≡ none) × (result.value ≤ 0) }
+    ensures { (view_number result ≡ None) × (result.value ≤ 0) }
 {
     Number {
         ok: false,
@@ -154,7 +153,7 @@ fn opposite(n: u64) -> i64
 }
 
 fn no_moment() -> Moment
-    ensures { view_moment result ≡ none }
+    ensures { view_moment result ≡ None }
 {
     Moment {
         ok: false,

@@ -13,7 +13,7 @@ use Rattle.base.proofs.PlaceLaws.{at-cons}
 use Rattle.base.proofs.TestLaws.{never, both}
 use Rattle.canonical_json.specs.Json.{Json, jnull, jtrue, jfalse, num, str, arr, obj, put, Valid, all_digits, max_depth}
 use Rattle.canonical_json.specs.Read.{NoDigit, got, read}
-use Rattle.canonical_json.specs.declared.Skip.TheVariants.{No, End}
+use Rattle.std.specs.declared.option.Option.TheVariants.{None, Some}
 use Rattle.canonical_json.proofs.Puts.{put_null, put-true, put-false, put-num, put-str, put-arr, put-obj}
 use Rattle.canonical_json.proofs.Complete.{complete}
 use Rattle.canonical_json.proofs.Rest.{ends-less, fits-ends, read_fits}
@@ -64,8 +64,8 @@ past-put (obj ms) zero r g f = absurd g
 past-put (obj ms) (suc d) r g f = rw put-obj (members_passed ms d (125 ∷ r) 0 g ∙ skim_brace_end r 0 ∙ skim-zero r)
 
 module _ (s : Bytes) (p e : ℕ) (h : p < length s) where
-  ends : past_value (drop p s) ≡ drop e s → p < e → e ≤ length s → Ends s p (End e)
-  ends k l w = record { means = λ v rest t f g. ap End (place v rest t f g); onward = (l, w) }
+  ends : past_value (drop p s) ≡ drop e s → p < e → e ≤ length s → Ends s p (Some e)
+  ends k l w = record { means = λ v rest t f g. ap Some (place v rest t f g); onward = (l, w) }
     where
       place : (v : Json) (rest : Bytes) → drop p s ≡ put v rest → NoDigit rest → Valid v max_depth → e ≡ length s - length rest
       place v rest t f g =
@@ -73,30 +73,30 @@ module _ (s : Bytes) (p e : ℕ) (h : p < length s) where
           let d = sym (length-drop e s) ∙ ap length q in
           omega arith
 
-  pub string-ends : get_or s p 0 ≡ 34 → StringEnd s (p + 1) e → Ends s p (End e)
+  pub string-ends : get_or s p 0 ≡ 34 → StringEnd s (p + 1) e → Ends s p (Some e)
   unfolding past_value
   string-ends b r = ends (rw (at-cons s p h, b) (r.means 0 ∙ skim-zero (drop e s))) (omega arith) r.within
 
-  pub bracket_ends : OneOf 91 123 (get_or s p 0) → BracketEnd s (p + 1) e → Ends s p (End e)
+  pub bracket_ends : OneOf 91 123 (get_or s p 0) → BracketEnd s (p + 1) e → Ends s p (Some e)
   unfolding past_value
   bracket_ends (inl b) r = ends (rw (at-cons s p h, b) r.means) (omega arith) r.within
   bracket_ends (inr b) r = ends (rw (at-cons s p h, b) r.means) (omega arith) r.within
 
-  pub false-ends : get_or s p 0 ≡ 102 → WordEnd s (p + 1) 4 e → Ends s p (End e)
+  pub false-ends : get_or s p 0 ≡ 102 → WordEnd s (p + 1) 4 e → Ends s p (Some e)
   unfolding past_value
   false-ends b r = ends (rw (at-cons s p h, b) r.means) (omega arith) r.within
 
-  pub word-ends : OneOf 110 116 (get_or s p 0) → WordEnd s (p + 1) 3 e → Ends s p (End e)
+  pub word-ends : OneOf 110 116 (get_or s p 0) → WordEnd s (p + 1) 3 e → Ends s p (Some e)
   unfolding past_value
   word-ends (inl b) r = ends (rw (at-cons s p h, b) r.means) (omega arith) r.within
   word-ends (inr b) r = ends (rw (at-cons s p h, b) r.means) (omega arith) r.within
 
-  pub digits-ends : (get_or s p 0 ≡ 34 → ⊥) → (OneOf 91 123 (get_or s p 0) → ⊥) → (get_or s p 0 ≡ 102 → ⊥) → (OneOf 110 116 (get_or s p 0) → ⊥) → DigitsEnd s (p + 1) e → Ends s p (End e)
+  pub digits-ends : (get_or s p 0 ≡ 34 → ⊥) → (OneOf 91 123 (get_or s p 0) → ⊥) → (get_or s p 0 ≡ 102 → ⊥) → (OneOf 110 116 (get_or s p 0) → ⊥) → DigitsEnd s (p + 1) e → Ends s p (Some e)
   unfolding past_value
   digits-ends q o f w r = ends (rw (at-cons s p h, ne_eqb _ _ q, none_of 91 123 _ o, ne_eqb _ _ f, none_of 110 116 _ w) r.means) (omega arith) r.within
 
 -- where the text has ended no value stands: its reader would find it there
-pub none-stands : (s : Bytes) (p : ℕ) → length s ≤ p → Ends s p No
+pub none-stands : (s : Bytes) (p : ℕ) → length s ≤ p → Ends s p None
 none-stands s p h = record { means = λ v rest t f g. absurd (none v rest t f g); onward = tt }
   where
     none : (v : Json) (rest : Bytes) → drop p s ≡ put v rest → NoDigit rest → Valid v max_depth → ⊥

@@ -5,8 +5,6 @@ ghost use Rattle.std.specs.Prelude.{◌≡◌, true, ◌+◌, ◌≤◌, length}
 ghost use Rattle.skip.specs.Skim.{Bare, Leads, StringEnd, BracketEnd, DigitsEnd, WordEnd};
 ghost use Rattle.skip.specs.Ends.{Ends};
 
-use canonical_json::Skip;
-
 // How many bytes of a string are looked at together.
 const BLOCK: usize = 16;
 
@@ -144,29 +142,29 @@ fn word_end(s: &[u8], at: usize, n: usize) -> usize
 }
 
 // Just past the value at `at`, by its first byte. Where no value stands there, any end after `at`.
-pub fn value(s: &[u8], at: usize) -> Skip
+pub fn value(s: &[u8], at: usize) -> Option<usize>
     ensures { Ends s.now at result }
 {
     if s.len() <= at {
-        return Skip::No;
+        return None;
     }
     let b = s[at];
     let next = at + 1;
     match b {
         b'"' => {
-            return Skip::End(string_end(s, next));
+            return Some(string_end(s, next));
         }
         b'[' | b'{' => {
-            return Skip::End(bracket_end(s, next));
+            return Some(bracket_end(s, next));
         }
         b'f' => {
-            return Skip::End(word_end(s, next, 4));
+            return Some(word_end(s, next, 4));
         }
         b'n' | b't' => {
-            return Skip::End(word_end(s, next, 3));
+            return Some(word_end(s, next, 3));
         }
         _ => {
-            return Skip::End(digits_end(s, next));
+            return Some(digits_end(s, next));
         }
     }
 }

@@ -1,7 +1,9 @@
 -- A name that is copied, what is said of it, and the list of names.
 use mathlib.Core.Path.{◌≡◌, refl, sym, ap, ◌∙◌}
 use mathlib.Core.List.{List}
-use mathlib.Core.Option.{Option, none, some, bind}
+use Rattle.std.specs.declared.option.Option.{Option}
+use Rattle.std.specs.declared.option.Option.TheVariants.{None, Some}
+use Rattle.canonical_json.specs.Options.{bind}
 use mathlib.Core.Bool.{Bool, true, false, ◌&&◌}
 use Prim.Native.Nat.{ℕ, ◌≤◌, ◌<◌, min}
 use native.Mathlib.Omega.{arith}
@@ -16,8 +18,6 @@ use Rattle.canonical_json.specs.Json.{Json, Members}
 use Rattle.canonical_json.specs.Fields.{members, lookup, field, count, keep}
 use Rattle.lookup.specs.Place.{PlaceOf, Finds, Takes}
 use Rattle.lookup.specs.Leaves.{Copies}
-use Rattle.lookup.specs.declared.Found.{Found}
-use Rattle.lookup.specs.declared.Found.TheVariants.{Nothing, At}
 use Rattle.lookup.proofs.StringLaws.{copied-front, copied-length}
 use Rattle.rules.specs.Limits.{max_name, max_names}
 use Rattle.rules.specs.Take.{◌>>=◌, name_of, each_named}
@@ -31,7 +31,7 @@ use Rattle.snapshot_file.specs.View.{IsMissing}
 -- ## A name
 
 module _ (t : Bytes) where
-  pub name-empty : length t < 1 → none ≡ name_of max_name t
+  pub name-empty : length t < 1 → None ≡ name_of max_name t
   unfolding name_of keep
   name-empty h = rw (lt-leb 1 (length t) h)
 
@@ -56,7 +56,7 @@ module _ (t : Bytes) where
 -- ## What is said of it
 
 module _ (t : Bytes) (v : Json) (ok : Bool) (n : Bytes) (e : keep ok n ≡ name_of max_name t) where
-  pub no_name : ok ≡ false → none ≡ named t v
+  pub no_name : ok ≡ false → None ≡ named t v
   unfolding named bind keep
   no_name q = rw (← e, q)
 
@@ -72,39 +72,39 @@ names-by v = go (members v)
   where
     inner : (b : Bool) (ms : Members) (o : Option Json) → lookup (bytes "targets.json") ms ≡ o
         → (keep b ms >>= λ ms. lookup (bytes "targets.json") ms >>= λ _. each_named named ms) ≡ (o >>= λ _. keep b ms >>= each_named named)
-    inner false ms none e = refl
-    inner false ms (some x) e = refl
-    inner true ms none e = rw e refl
-    inner true ms (some x) e = rw e refl
+    inner false ms None e = refl
+    inner false ms (Some x) e = refl
+    inner true ms None e = rw e refl
+    inner true ms (Some x) e = rw e refl
 
     go : (o : Option Members) → (o >>= λ ms. keep (leb 1 (count ms) && leb (count ms) max_names) ms >>= λ ms. lookup (bytes "targets.json") ms >>= λ _. each_named named ms)
         ≡ ((o >>= lookup (bytes "targets.json")) >>= λ _. o >>= λ ms. keep (leb 1 (count ms) && leb (count ms) max_names) ms >>= each_named named)
-    go none = refl
-    go (some ms) = inner (leb 1 (count ms) && leb (count ms) max_names) ms (lookup (bytes "targets.json") ms) refl
+    go None = refl
+    go (Some ms) = inner (leb 1 (count ms) && leb (count ms) max_names) ms (lookup (bytes "targets.json") ms) refl
 
 module _ (s : Bytes) (p : ℕ) (o : Option (List Named)) where
   -- the list is broken
-  pub names-broken : o ≡ none → Takes s p (each_member 1 max_names named) none → Takes s p names o
+  pub names-broken : o ≡ None → Takes s p (each_member 1 max_names named) None → Takes s p names o
   unfolding bind
   names-broken e t v h = e ∙ sym (names-by v ∙ rw (← t v h) (go (field (bytes "targets.json") v)))
     where
-      go : (x : Option Json) → ◌≡◌ {A = Option (List Named)} (x >>= λ _. none) none
-      go none = refl
-      go (some w) = refl
+      go : (x : Option Json) → ◌≡◌ {A = Option (List Named)} (x >>= λ _. None) None
+      go None = refl
+      go (Some w) = refl
 
-  module _ (r : Found) (b : Bool) (m : IsMissing r b) (w : Finds s p (field (bytes "targets.json")) r) where
-    pub targets_missing : b ≡ true → o ≡ none → Takes s p names o
+  module _ (r : Option ℕ) (b : Bool) (m : IsMissing r b) (w : Finds s p (field (bytes "targets.json")) r) where
+    pub targets_missing : b ≡ true → o ≡ None → Takes s p names o
     unfolding bind
-    targets_missing q e v h = let n : field (bytes "targets.json") v ≡ none = go r m (w v h) in e ∙ sym (names-by v ∙ rw n refl)
+    targets_missing q e v h = let n : field (bytes "targets.json") v ≡ None = go r m (w v h) in e ∙ sym (names-by v ∙ rw n refl)
       where
-        go : (r : Found) → IsMissing r b → PlaceOf s r (field (bytes "targets.json") v) → field (bytes "targets.json") v ≡ none
-        go Nothing m t = t
-        go (At x) m t = never (sym q ∙ m)
+        go : (r : Option ℕ) → IsMissing r b → PlaceOf s r (field (bytes "targets.json") v) → field (bytes "targets.json") v ≡ None
+        go None m t = t
+        go (Some x) m t = never (sym q ∙ m)
 
     pub targets-there : b ≡ false → Takes s p (each_member 1 max_names named) o → Takes s p names o
     unfolding bind
     targets-there q t v h = let z = go r m (w v h) in t v h ∙ sym (names-by v ∙ rw z.1 refl)
       where
-        go : (r : Found) → IsMissing r b → PlaceOf s r (field (bytes "targets.json") v) → (x : Json) × (field (bytes "targets.json") v ≡ some x)
-        go Nothing m t = never (sym m ∙ q)
-        go (At x) m t = (t.0, t.1)
+        go : (r : Option ℕ) → IsMissing r b → PlaceOf s r (field (bytes "targets.json") v) → (x : Json) × (field (bytes "targets.json") v ≡ Some x)
+        go None m t = never (sym m ∙ q)
+        go (Some x) m t = (t.0, t.1)

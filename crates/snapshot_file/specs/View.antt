@@ -1,10 +1,9 @@
 -- What the answers stand for.
 use Rattle.std.specs.Prelude.{◌≡◌, Bool, true, false, List}
-use Rattle.std.proofs.Math.Option.{Option}
+use Rattle.std.specs.declared.option.Option.{Option}
 use Rattle.base.specs.Bytes.{Bytes}
 use Rattle.canonical_json.specs.Fields.{keep}
-use Rattle.lookup.specs.declared.Found.{Found}
-use Rattle.lookup.specs.declared.Found.TheVariants.{Nothing, At}
+use Rattle.std.specs.declared.option.Option.TheVariants.{None, Some}
 use Rattle.rules.specs.Records as rules
 use Rattle.rules.specs.Records.{Read}
 use Rattle.rules.specs.State as state
@@ -25,9 +24,9 @@ unfoldable pub view_names_at : NamesAt → Option (List rules.Named)
 view_names_at r = keep r.ok (view_names r.names)
 
 -- whether nothing was found
-abbrev pub IsMissing : Found → Bool → Type 0
-IsMissing Nothing b = b ≡ true
-IsMissing (At x) b = b ≡ false
+abbrev pub IsMissing : Option ℕ → Bool → Type 0
+IsMissing None b = b ≡ true
+IsMissing (Some x) b = b ≡ false
 
 unfoldable pub view_snapshot_read : SnapshotRead → Option (Read state.Snapshot)
 view_snapshot_read r = view_read r.answer (view_snapshot r.snapshot) (view_entries r.entries)

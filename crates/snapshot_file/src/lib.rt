@@ -2,10 +2,8 @@
 #![tactic(auto)]
 
 ghost use Rattle.std.specs.Prelude.{◌≡◌, drop};
-ghost use Rattle.std.proofs.Math.Option.{none, some};
 ghost use Rattle.canonical_json.specs.Read.{raw};
 ghost use Rattle.lookup.specs.Place.{Takes, KnownEnd, FoundEnd};
-ghost use Rattle.lookup.specs.declared.Found.TheVariants.{Nothing};
 ghost use Rattle.rules.specs.Limits.{max_name};
 ghost use Rattle.rules.specs.Take.{name_of};
 ghost use Rattle.rules.specs.Forms.{named as named_form, names as names_form};
@@ -51,11 +49,11 @@ fn name_in(s: &[u8], i: usize) -> NameAt
 pub struct NamedAt {
     pub ok: bool,
     pub named: Named,
-    pub end: Found,
+    pub end: Option<usize>,
 }
 
 fn no_named() -> NamedAt
-    ensures { (view_named_at result ≡ none) × (result.end ≡ Nothing) }
+    ensures { (view_named_at result ≡ None) × (result.end ≡ None) }
 {
     let blank = forms::no_listed();
     let listed = blank.listed;
@@ -68,7 +66,7 @@ fn no_named() -> NamedAt
             },
             listed,
         },
-        end: Found::Nothing,
+        end: None,
     }
 }
 
@@ -98,11 +96,11 @@ fn named_at(s: &[u8], i: usize, at: usize) -> NamedAt
 pub struct NamesAt {
     pub ok: bool,
     pub names: Names,
-    pub end: Found,
+    pub end: Option<usize>,
 }
 
 fn no_names() -> NamesAt
-    ensures { (view_names_at result ≡ none) × (result.end ≡ Nothing) }
+    ensures { (view_names_at result ≡ None) × (result.end ≡ None) }
 {
     let blank = no_named();
     let named = blank.named;
@@ -112,7 +110,7 @@ fn no_names() -> NamesAt
             count: 0,
             named: [named; records::MAX_NAMES],
         },
-        end: Found::Nothing,
+        end: None,
     }
 }
 
@@ -124,7 +122,7 @@ fn names_at(s: &[u8], at: usize) -> NamesAt
     let blank = none.named;
     let mut all = [blank; records::MAX_NAMES];
     let mut n: usize = 0;
-    let mut targets = Found::Nothing;
+    let mut targets = None;
     let mut m = lookup::first_member(s, at);
     loop {
         match m {
@@ -159,34 +157,34 @@ fn names_at(s: &[u8], at: usize) -> NamesAt
                         count: n,
                         named: all,
                     },
-                    end: Found::At(e),
+                    end: Some(e),
                 };
             }
         }
     }
 }
 
-fn is_missing(found: Found) -> bool
+fn is_missing(found: Option<usize>) -> bool
     ensures { IsMissing found result }
 {
     match found {
-        Found::Nothing => {
+        None => {
             return true;
         }
-        Found::At(_) => {
+        Some(_) => {
             return false;
         }
     }
 }
 
-fn meta_names(s: &[u8], found: Found) -> NamesAt
+fn meta_names(s: &[u8], found: Option<usize>) -> NamesAt
     ensures { TakesMust s.now found names_form (view_names_at result) × FoundEnd s.now found result.end }
 {
     match found {
-        Found::Nothing => {
+        None => {
             return no_names();
         }
-        Found::At(x) => {
+        Some(x) => {
             return names_at(s, x);
         }
     }
@@ -220,7 +218,7 @@ fn refused(answer: u8) -> SnapshotRead
 }
 
 pub fn read_snapshot(file: &[u8]) -> SnapshotRead
-    ensures { view_snapshot_read result ≡ some (snapshot_in file.now) }
+    ensures { view_snapshot_read result ≡ Some (snapshot_in file.now) }
 {
     let opened = envelope::open_envelope(file);
     if opened.answer != 0 {

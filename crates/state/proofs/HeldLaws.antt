@@ -1,7 +1,7 @@
 -- Tests of a record that a flag says is held.
 use mathlib.Core.Path.{◌≡◌, refl, ap, ◌∙◌}
 use mathlib.Core.Bool.{Bool, true, false, not, ◌&&◌}
-use mathlib.Core.Option.{some}
+use Rattle.std.specs.declared.option.Option.TheVariants.{Some}
 use Rattle.canonical_json.specs.Fields.{keep}
 use Rattle.rules.specs.Table.{of_held, absent}
 use Rattle.rules.specs.Steps.{drop_if}
@@ -20,7 +20,7 @@ pub not-held : {A : Type 0} (b : Bool) (x : A) (f : A → Bool) → b ≡ false 
 unfolding keep
 not-held b x f e = rw e refl
 
-pub held-is : {A : Type 0} (x : A) → keep true x ≡ some x
+pub held-is : {A : Type 0} (x : A) → keep true x ≡ Some x
 unfolding keep
 held-is x = refl
 

@@ -1,6 +1,7 @@
 -- What is told of a state: the version of each record that is held, and the start time.
 use Rattle.std.specs.Prelude.{◌≡◌, false, ℕ}
-use Rattle.std.proofs.Math.Option.{Option, none, some}
+use Rattle.std.specs.declared.option.Option.{Option}
+use Rattle.std.specs.declared.option.Option.TheVariants.{None, Some}
 use Rattle.canonical_json.specs.Fields.{keep}
 use Rattle.rules.specs.State as rules
 use Rattle.state.specs.declared.Version.{Version}
@@ -8,8 +9,8 @@ use Rattle.state.specs.declared.Versions.{Versions}
 
 -- the version of a record that may not be held
 unfoldable pub held_version : {A : Type 0} → (A → ℕ) → Option A → Option ℕ
-held_version version none = none
-held_version version (some a) = some (version a)
+held_version version None = None
+held_version version (Some a) = Some (version a)
 
 -- a version told, with the number 0 where the record is not held
 pub record Shown (v : Option ℕ) (r : Version) : Type 0 where

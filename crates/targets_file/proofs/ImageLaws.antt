@@ -1,7 +1,9 @@
 -- An image, a list of images that is read in one pass, and the image of a path in it.
 use mathlib.Core.Path.{◌≡◌, refl, sym, ap, ◌∙◌}
 use mathlib.Core.List.{List, [], ◌∷◌, ◌++◌}
-use mathlib.Core.Option.{Option, none, some, bind}
+use Rattle.std.specs.declared.option.Option.{Option}
+use Rattle.std.specs.declared.option.Option.TheVariants.{None, Some}
+use Rattle.canonical_json.specs.Options.{bind}
 use mathlib.Core.Bool.{Bool, true, false, cond, not, and-false, ◌&&◌}
 use Prim.Native.Nat.{ℕ, ◌+◌, ◌≤◌, ◌<◌}
 use native.Mathlib.Omega.{arith}
@@ -20,7 +22,6 @@ use Rattle.lookup.specs.Place.{Stands, Takes}
 use Rattle.lookup.specs.Walk.{FirstMember, NextMember}
 use Rattle.lookup.specs.Leaves.{order_of}
 use Rattle.lookup.specs.declared.Order.{Order}
-use Rattle.lookup.specs.declared.Found.TheVariants.{Nothing}
 use Rattle.lookup.proofs.StandsLaws.{known-none}
 use Rattle.lookup.proofs.StringLaws.{is_smaller, is_equal, order_less, order_same}
 use Rattle.lookup.specs.declared.Member.{Member}
@@ -51,33 +52,33 @@ abbrev under : Bytes → Found → Image
 under t f = record { path = t; length = f.length; digest = f.digest }
 
 module _ (v : Json) where
-  pub no_length : none ≡ must (bytes "length") (number 0 max_length) v → none ≡ description v
+  pub no_length : None ≡ must (bytes "length") (number 0 max_length) v → None ≡ description v
   unfolding description bind
   no_length e = rw (← e)
 
-  pub description-is : (n : ℕ) → some n ≡ must (bytes "length") (number 0 max_length) v → (o : Option Bytes) → o ≡ must (bytes "hashes") sha256 v
-      → (o >>= λ d. some (found n d)) ≡ description v
+  pub description-is : (n : ℕ) → Some n ≡ must (bytes "length") (number 0 max_length) v → (o : Option Bytes) → o ≡ must (bytes "hashes") sha256 v
+      → (o >>= λ d. Some (found n d)) ≡ description v
   unfolding description bind
   description-is n e o f = rw (← e, ← f)
 
 module _ (t : Bytes) (v : Json) where
-  pub path_empty : length t < 1 → none ≡ image t v
+  pub path_empty : length t < 1 → None ≡ image t v
   unfolding image name_of keep bind
   path_empty h = rw (lt-leb 1 (length t) h)
 
-  pub path-long : max_path < length t → none ≡ image t v
+  pub path-long : max_path < length t → None ≡ image t v
   unfolding image name_of keep bind
   path-long h = rw (lt-leb (length t) max_path h, and-false)
 
   -- a name of its form, and what is said under it
-  named-image : 1 ≤ length t → length t ≤ max_path → image t v ≡ (description v >>= λ f. some (under t f))
+  named-image : 1 ≤ length t → length t ≤ max_path → image t v ≡ (description v >>= λ f. Some (under t f))
   unfolding image description name_of keep bind
   named-image lo hi = rw (le-leb 1 (length t) lo, le-leb (length t) max_path hi) (go (must (bytes "length") (number 0 max_length) v) (must (bytes "hashes") sha256 v))
     where
-      go : (n : Option ℕ) (d : Option Bytes) → (n >>= λ n. d >>= λ d. some (under t (found n d))) ≡ ((n >>= λ n. d >>= λ d. some (found n d)) >>= λ f. some (under t f))
-      go none d = refl
-      go (some n) none = refl
-      go (some n) (some d) = refl
+      go : (n : Option ℕ) (d : Option Bytes) → (n >>= λ n. d >>= λ d. Some (under t (found n d))) ≡ ((n >>= λ n. d >>= λ d. Some (found n d)) >>= λ f. Some (under t f))
+      go None d = refl
+      go (Some n) None = refl
+      go (Some n) (Some d) = refl
 
 module _ (s : Bytes) (i p : ℕ) (r : ImageAt) where
   pub reads-named : 1 ≤ length (raw (drop i s)) → length (raw (drop i s)) ≤ max_path → ReadsImage s p r → ReadsNamed s i p r
@@ -85,21 +86,21 @@ module _ (s : Bytes) (i p : ℕ) (r : ImageAt) where
   reads-named lo hi w = record {
     means = λ v h.
         keep_in r.ok (described s r) (under (raw (drop i s)))
-        ∙ ap (λ (o : Option Found). o >>= λ f. some (under (raw (drop i s)) f)) (w.means v h)
+        ∙ ap (λ (o : Option Found). o >>= λ f. Some (under (raw (drop i s)) f)) (w.means v h)
         ∙ sym (named-image (raw (drop i s)) v lo hi);
     digits = w.digits;
     end = w.end;
   }
 
 -- the form is broken
-module _ (s : Bytes) (p : ℕ) (r : ImageAt) (o : r.ok ≡ false) (e : r.end ≡ Nothing) where
+module _ (s : Bytes) (p : ℕ) (r : ImageAt) (o : r.ok ≡ false) (e : r.end ≡ None) where
   no-digits : r.ok ≡ true → is_hex digest_size (raw (drop r.digest s)) ≡ true
   no-digits q = never (sym q ∙ o)
 
-  pub broken-image : ((v : Json) → Stands s p v → none ≡ description v) → ReadsImage s p r
+  pub broken-image : ((v : Json) → Stands s p v → None ≡ description v) → ReadsImage s p r
   broken-image f = record { means = λ v h. cut _ _ o ∙ f v h; digits = no-digits; end = known-none s p _ e }
 
-  pub broken-name : (i : ℕ) → ((v : Json) → Stands s p v → none ≡ image (raw (drop i s)) v) → ReadsNamed s i p r
+  pub broken-name : (i : ℕ) → ((v : Json) → Stands s p v → None ≡ image (raw (drop i s)) v) → ReadsNamed s i p r
   unfolding view_image
   broken-name i f = record { means = λ v h. cut _ _ o ∙ f v h; digits = no-digits; end = known-none s p _ e }
 
@@ -145,7 +146,7 @@ Stops path n is = listed (seek path (going n) is) ≡ record { image = found_of 
 
 seek_stops : (path : Bytes) (n : ℕ) (is : List Image) → Stops path n is
 unfolding seek going with_image comparing stopping after listed found_of keep bind
-seek_stops path n [] = ap (λ (k : ℕ). record { image = none; compared = k }) (omega arith)
+seek_stops path n [] = ap (λ (k : ℕ). record { image = None; compared = k }) (omega arith)
 seek_stops path n (i ∷ is) = go (less i.path path) refl (seek_stops path (n + 1) is)
   where
     found-is : (b : Bool) → keep b (found i.length i.digest) ≡ found_of (keep b i)
@@ -162,7 +163,7 @@ seek_stops path n (i ∷ is) = go (less i.path path) refl (seek_stops path (n + 
         ∙ rw e (ap (λ (o : Option Found). record { image = o; compared = n + 1 }) (found-is (same path i.path)))
 
 -- the images of a value that stands in the text: their names rise
-module _ (path : Bytes) (v : Json) (valid : Valid v max_depth) (is : List Image) (e : images v ≡ some is) where
+module _ (path : Bytes) (v : Json) (valid : Valid v max_depth) (is : List Image) (e : images v ≡ Some is) where
   pub seek-listing : listed (seek path (going 0) is) ≡ listing path is
   unfolding listing searched
   seek-listing =
@@ -176,17 +177,17 @@ pub listing_in-must : (path k : Bytes) (form : Json → Option (List Image)) (v 
 unfolding must listing_in bind
 listing_in-must path k form v = go (field k v)
   where
-    go : (o : Option Json) → (o >>= listing_in path form) ≡ ((o >>= form) >>= λ is. some (listing path is))
-    go none = refl
-    go (some w) = refl
+    go : (o : Option Json) → (o >>= listing_in path form) ≡ ((o >>= form) >>= λ is. Some (listing path is))
+    go None = refl
+    go (Some w) = refl
 
 images-by : (v : Json) → images v ≡ each_member 0 max_targets image v
 unfolding images each_member bind
 images-by v = go (members v)
   where
     go : (o : Option Members) → (o >>= λ ms. keep (leb (count ms) max_targets) ms >>= each_named image) ≡ (o >>= λ ms. keep (leb 0 (count ms) && leb (count ms) max_targets) ms >>= each_named image)
-    go none = refl
-    go (some ms) = rw (le-leb 0 (count ms) (omega arith)) refl
+    go None = refl
+    go (Some ms) = rw (le-leb 0 (count ms) (omega arith)) refl
 
 -- ## One pass over the images
 
@@ -219,27 +220,27 @@ module _ (s path : Bytes) (at : ℕ) (search : Search) where
       record { few = omega arith; before = []; is = e; all = λ o. ap (λ (r : Sought). r.compared) e; walk = λ v h. members-first image 0 max_targets s m w v h }
 
   module _ (n : ℕ) (m : Member) (w : Pass s path at search n m) where
-    pub pass_over : (e : ℕ) → m ≡ member.End e → Takes s at (listing_in path images) (some (listed (view_search search)))
+    pub pass_over : (e : ℕ) → m ≡ member.End e → Takes s at (listing_in path images) (Some (listed (view_search search)))
     unfolding listing_in bind
     pass_over j q v h =
-        let e : images v ≡ some w.before = images-by v ∙ sym (members-over image 0 max_targets s m n w.before _ (w.walk v h) j q (omega arith) w.few) in
-        rw e (ap (λ (r : Sought). some (listed r)) w.is ∙ ap some (seek-listing path v h.valid w.before e))
+        let e : images v ≡ Some w.before = images-by v ∙ sym (members-over image 0 max_targets s m n w.before _ (w.walk v h) j q (omega arith) w.few) in
+        rw e (ap (λ (r : Sought). Some (listed r)) w.is ∙ ap Some (seek-listing path v h.valid w.before e))
 
     module _ (r : ImagesAt) where
-      broken : view_images r ≡ none → ((v : Json) → Stands s at v → none ≡ each_member 0 max_targets image v) → Takes s at (listing_in path images) (view_images r)
+      broken : view_images r ≡ None → ((v : Json) → Stands s at v → None ≡ each_member 0 max_targets image v) → Takes s at (listing_in path images) (view_images r)
       unfolding listing_in bind
       broken z e v h = rw (images-by v, ← e v h) z
 
-      pub pass_none : view_images r ≡ none → m ≡ member.NoObject → Takes s at (listing_in path images) (view_images r)
+      pub pass_none : view_images r ≡ None → m ≡ member.NoObject → Takes s at (listing_in path images) (view_images r)
       pass_none z q = broken z (λ v h. members-none image 0 max_targets s m n w.before _ (w.walk v h) q)
 
     -- the name is read at i, the value stands at j
     module _ (i j : ℕ) (q : m ≡ member.At i j) where
-      pub pass_full : (r : ImagesAt) → view_images r ≡ none → max_targets ≤ n → Takes s at (listing_in path images) (view_images r)
+      pub pass_full : (r : ImagesAt) → view_images r ≡ None → max_targets ≤ n → Takes s at (listing_in path images) (view_images r)
       pass_full r z l = broken r z (λ v h. members-full image 0 max_targets s m n w.before _ (w.walk v h) i j q l)
 
       module _ (x : ImageAt) (t : ReadsNamed s i j x) where
-        pub pass_broken : (r : ImagesAt) → view_images r ≡ none → x.ok ≡ false → Takes s at (listing_in path images) (view_images r)
+        pub pass_broken : (r : ImagesAt) → view_images r ≡ None → x.ok ≡ false → Takes s at (listing_in path images) (view_images r)
         unfolding view_image
         pass_broken r z o =
             broken r z

@@ -1,7 +1,8 @@
 -- The one text of an image with no members but "hashes" and "length", and no hash but "sha256": it is read as that image.
 use mathlib.Core.Path.{◌≡◌, refl, sym, ap, ◌∙◌}
 use mathlib.Core.List.{[], ◌∷◌, ◌++◌}
-use mathlib.Core.Option.{some, bind}
+use Rattle.std.specs.declared.option.Option.TheVariants.{Some}
+use Rattle.canonical_json.specs.Options.{bind}
 use mathlib.Core.Bool.{true, false}
 use Prim.Native.Nat.{ℕ, ◌+◌, ◌-◌, ◌*◌, ◌<◌}
 use Prim.Native.Char.{code}
@@ -17,13 +18,12 @@ use Rattle.canonical_json.specs.Json.{num, put, put_bytes, Valid, valid_num, max
 use Rattle.canonical_json.specs.Read.{Got, bad, got, end_of, number, read, raw}
 use Rattle.canonical_json.specs.Fields as fields
 use Rattle.canonical_json.specs.Fields.{field, members, lookup, text, keep}
-use Rattle.canonical_json.specs.declared.Skip.TheVariants.{End}
+use Rattle.std.specs.declared.option.Option.TheVariants.{None, Some}
 use Rattle.canonical_json.proofs.Says.{says_of}
 use Rattle.canonical_json.proofs.NumberLaws.{number_sound}
 use Rattle.canonical_json.proofs.Puts.{put-num}
 use Rattle.canonical_json.proofs.Rfc.{to_rfc}
 use Rattle.canonical_json.proofs.Complete.{complete-object}
-use Rattle.lookup.specs.declared.Found.TheVariants.{At}
 use Rattle.lookup.specs.Leaves.{number_in}
 use Rattle.lookup.proofs.NumberLaws.{number_of}
 use Rattle.lookup.proofs.StandsLaws.{known_as, takes_of, ends_of}
@@ -49,10 +49,10 @@ some-digit : (ds : Bytes) → valid_num false ds ≡ true → 0 < length ds
 some-digit [] v = never (sym v)
 some-digit (b ∷ ds) v = omega arith
 
-written : (s : Bytes) (p e : ℕ) → End e ≡ end_of (length s) (number false (drop p s)) → Written s p e
+written : (s : Bytes) (p e : ℕ) → Some e ≡ end_of (length s) (number false (drop p s)) → Written s p e
 written s p e x = go (number false (drop p s)) refl x
   where
-    go : (g : Got Bytes) → number false (drop p s) ≡ g → End e ≡ end_of (length s) g → Written s p e
+    go : (g : Got Bytes) → number false (drop p s) ≡ g → Some e ≡ end_of (length s) g → Written s p e
     go bad k x = let z : ◌≡◌ {A = ℕ} 0 1 = cc in absurd (omega arith)
     go (got ds q) k x =
         let w = says_of (rw k at (number_sound false (drop p s))) in
@@ -67,8 +67,8 @@ written s p e x = go (number false (drop p s)) refl x
           after = omega arith;
         }
 
-pub plain-length : (s : Bytes) (i p e : ℕ) (r : ImageAt) → End e ≡ end_of (length s) (number false (drop p s)) → e < length s → get_or s e 0 ≡ code "}"
-    → r.digest ≡ i → r.end ≡ At (e + 1) → some r.length ≡ number_in 0 max_length (drop p s) → PlainLength s i p r
+pub plain-length : (s : Bytes) (i p e : ℕ) (r : ImageAt) → Some e ≡ end_of (length s) (number false (drop p s)) → e < length s → get_or s e 0 ≡ code "}"
+    → r.digest ≡ i → r.end ≡ Some (e + 1) → Some r.length ≡ number_in 0 max_length (drop p s) → PlainLength s i p r
 unfolding Valid
 plain-length s i p e r x h b d n k =
     let w = written s p e x in
@@ -97,8 +97,8 @@ module _ (hash written q : Bytes) (h : all_hex hash ≡ true) (v : valid_num fal
   plain-valid = (to_rfc (bytes "hashes") refl, (to_rfc (bytes "sha256") refl, hex-valid hash h, tt), (refl, to_rfc (bytes "length") refl, v, tt))
 
 -- what it says
-plain-says : (hash written : Bytes) → is_hex digest_size hash ≡ true → (n : ℕ) → some n ≡ fields.number 0 max_length (num false written)
-    → some (record { length = n; digest = undo hash }) ≡ description (plain_image hash written)
+plain-says : (hash written : Bytes) → is_hex digest_size hash ≡ true → (n : ℕ) → Some n ≡ fields.number 0 max_length (num false written)
+    → Some (record { length = n; digest = undo hash }) ≡ description (plain_image hash written)
 unfolding plain_image description must sha256 hex unhex field members lookup text keep bind same
 plain-says hash written h n e = rw (← e, h) refl
 
@@ -130,8 +130,8 @@ module _ (s : Bytes) (p i q : ℕ) (r : ImageAt)
         means =
             rw ok
             (takes_of s p _ _ plain-read description _
-            (ap (λ (n : ℕ). some (record { length = r.length; digest = undo (raw (drop n s)) })) w.digest
-            ∙ ap (λ (x : Bytes). some (record { length = r.length; digest = undo x })) d
+            (ap (λ (n : ℕ). Some (record { length = r.length; digest = undo (raw (drop n s)) })) w.digest
+            ∙ ap (λ (x : Bytes). Some (record { length = r.length; digest = undo x })) d
             ∙ plain-says hash w.written (ap (is_hex digest_size) (sym d) ∙ is) r.length w.is));
         digits = λ _. ap (λ (n : ℕ). is_hex digest_size (raw (drop n s))) w.digest ∙ is;
         end = known_as s p _ _ w.end (ends_of s p _ _ plain-read w.past refl (let a = w.within.0 in omega arith) w.within.1);

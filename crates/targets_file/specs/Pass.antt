@@ -1,6 +1,6 @@
 -- The search in the pass over the images of a targets file.
 use Rattle.std.specs.Prelude.{◌≡◌, true, false, cond, not, List, [], ◌∷◌, ℕ, ◌+◌, drop}
-use Rattle.std.proofs.Math.Option.{none}
+use Rattle.std.specs.declared.option.Option.TheVariants.{None}
 use Rattle.base.specs.Bytes.{Bytes, same, less}
 use Rattle.base.specs.Hex.{is_hex}
 use Rattle.canonical_json.specs.Read.{raw}
@@ -13,7 +13,7 @@ use Rattle.targets_file.specs.declared.Search.{Search}
 
 -- n names were compared, all of them smaller than the path
 unfoldable pub going : ℕ → Sought
-going n = record { over = false; compared = n; image = none }
+going n = record { over = false; compared = n; image = None }
 
 -- the name of one image more is compared
 unfoldable pub comparing : Bytes → Sought → Image → Sought

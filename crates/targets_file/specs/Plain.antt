@@ -1,11 +1,11 @@
 -- An image with no members but "hashes" and "length", and no hash but "sha256".
 use Rattle.std.specs.Prelude.{◌≡◌, true, false, ◌∷◌, ◌++◌, ℕ, ◌<◌, ◌≤◌, length, drop}
-use Rattle.std.proofs.Math.Option.{some}
+use Rattle.std.specs.declared.option.Option.TheVariants.{Some}
 use Prim.Native.Char.{code}
 use Rattle.base.specs.Bytes.{Bytes, bytes}
 use Rattle.canonical_json.specs.Json.{Json, num, str, obj, mnil, mcons, valid_num}
 use Rattle.canonical_json.specs.Fields.{number}
-use Rattle.lookup.specs.declared.Found.TheVariants.{At}
+use Rattle.std.specs.declared.option.Option.TheVariants.{None, Some}
 use Rattle.rules.specs.Limits.{max_length}
 use Rattle.targets_file.specs.declared.ImageAt.{ImageAt}
 
@@ -24,9 +24,9 @@ between = bytes "\"},\"length\":"
 pub record PlainLength (s : Bytes) (i p : ℕ) (r : ImageAt) : Type 0 where
   pub digest : r.digest ≡ i
   pub past : ℕ
-  pub end : r.end ≡ At past
+  pub end : r.end ≡ Some past
   pub within : (p < past) × (past ≤ length s)
   pub written : Bytes
   pub valid : valid_num false written ≡ true
   pub text : drop p s ≡ written ++ (code "}" ∷ drop past s)
-  pub is : some r.length ≡ number 0 max_length (num false written)
+  pub is : Some r.length ≡ number 0 max_length (num false written)

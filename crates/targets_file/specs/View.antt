@@ -1,7 +1,8 @@
 -- What the answers stand for. Of a targets file its version, its date and the one image of a path are looked at: the others are only
 -- read for their form.
 use Rattle.std.specs.Prelude.{◌≡◌, Bool, true, List, ℕ, ℤ, drop}
-use Rattle.std.proofs.Math.Option.{Option, some}
+use Rattle.std.specs.declared.option.Option.{Option}
+use Rattle.std.specs.declared.option.Option.TheVariants.{Some}
 use Rattle.base.specs.Bytes.{Bytes, bytes}
 use Rattle.base.specs.Hex.{is_hex, undo}
 use Rattle.canonical_json.specs.Json.{Json}
@@ -29,7 +30,7 @@ unfoldable pub description : Json → Option Found
 description v =
     must (bytes "length") (number 0 max_length) v >>= λ length.
     must (bytes "hashes") sha256 v >>= λ digest.
-    some (record { length = length; digest = digest })
+    Some (record { length = length; digest = digest })
 
 unfoldable pub described : Bytes → ImageAt → Found
 described s r = record { length = r.length; digest = undo (raw (drop r.digest s)) }
@@ -60,7 +61,7 @@ pub record Listing : Type 0 where
   pub compared : ℕ
 
 unfoldable pub found_of : Option Image → Option Found
-found_of o = o >>= λ i. some (record { length = i.length; digest = i.digest })
+found_of o = o >>= λ i. Some (record { length = i.length; digest = i.digest })
 
 -- the length and digest of its image, where it is listed, and the number of names compared
 unfoldable pub listing : Bytes → List Image → Listing
@@ -68,7 +69,7 @@ listing path is = record { image = found_of (image_of path is); compared = compa
 
 -- the same of a form of such a list
 unfoldable pub listing_in : Bytes → (Json → Option (List Image)) → Json → Option Listing
-listing_in path form v = form v >>= λ is. some (listing path is)
+listing_in path form v = form v >>= λ is. Some (listing path is)
 
 -- what the search says so far
 pub record Sought : Type 0 where

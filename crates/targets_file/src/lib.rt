@@ -3,9 +3,7 @@
 #![tactic(auto)]
 
 ghost use Rattle.std.specs.Prelude.{◌≡◌, true, false};
-ghost use Rattle.std.proofs.Math.Option.{none, some};
 ghost use Rattle.lookup.specs.Place.{Takes, KnownEnd, FoundEnd};
-ghost use Rattle.lookup.specs.declared.Found.TheVariants.{Nothing, At};
 ghost use Rattle.rules.specs.Limits.{digest_size};
 ghost use Rattle.rules.specs.Forms.{sha256, images as images_form};
 ghost use Rattle.rules.specs.State.{kept, targets_in};
@@ -28,17 +26,17 @@ pub struct ImageAt {
     pub ok: bool,
     pub length: u64,
     pub digest: usize,
-    pub end: Found,
+    pub end: Option<usize>,
 }
 
 fn no_image() -> ImageAt
-    ensures { (result.ok ≡ false) × (result.end ≡ Nothing) }
+    ensures { (result.ok ≡ false) × (result.end ≡ None) }
 {
     ImageAt {
         ok: false,
         length: 0,
         digest: 0,
-        end: Found::Nothing,
+        end: None,
     }
 }
 
@@ -68,10 +66,10 @@ fn plain_length(s: &[u8], digest: usize, at: usize) -> ImageAt
     ensures { result.ok ≡ true → PlainLength s.now digest at result }
 {
     match canonical_json::number(s, at, false) {
-        Skip::No => {
+        None => {
             return no_image();
         }
-        Skip::End(e) => {
+        Some(e) => {
             if s.len() <= e {
                 return no_image();
             }
@@ -79,15 +77,15 @@ fn plain_length(s: &[u8], digest: usize, at: usize) -> ImageAt
                 return no_image();
             }
             match lookup::number_at(s, at, 0, records::MAX_LENGTH) {
-                Number::No => {
+                None => {
                     return no_image();
                 }
-                Number::Is(length) => {
+                Some(length) => {
                     return ImageAt {
                         ok: true,
                         length,
                         digest,
-                        end: Found::At(e + 1),
+                        end: Some(e + 1),
                     };
                 }
             }
@@ -96,14 +94,14 @@ fn plain_length(s: &[u8], digest: usize, at: usize) -> ImageAt
 }
 
 // Where the digits of the "sha256" of the hashes stand.
-fn digest_place(s: &[u8], hashes: Found) -> Found
+fn digest_place(s: &[u8], hashes: Option<usize>) -> Option<usize>
     ensures { TakesMust s.now hashes sha256 (undone_at s.now result) × HexAt digest_size s.now result }
 {
     match hashes {
-        Found::Nothing => {
-            return Found::Nothing;
+        None => {
+            return None;
         }
-        Found::At(h) => {
+        Some(h) => {
             let found = lookup::find_member(s, h, b"sha256");
             return forms::digits_field(s, found, records::DIGEST);
         }
@@ -119,14 +117,14 @@ fn walked_image(s: &[u8], at: usize) -> ImageAt
     let second = m.second;
     let end = m.end;
     match forms::number_field(s, first, 0, records::MAX_LENGTH) {
-        Number::No => {
+        None => {
             return no_image();
         }
-        Number::Is(length) => match digest_place(s, second) {
-            Found::Nothing => {
+        Some(length) => match digest_place(s, second) {
+            None => {
                 return no_image();
             }
-            Found::At(digest) => {
+            Some(digest) => {
                 return ImageAt {
                     ok: true,
                     length,
@@ -170,7 +168,7 @@ pub struct Search {
 
 // The path was not among the names compared.
 fn not_found(over: bool, compared: usize) -> Search
-    ensures { view_search result ≡ record { over = over; compared = compared; image = none } }
+    ensures { view_search result ≡ record { over = over; compared = compared; image = None } }
 {
     Search {
         over,
@@ -216,17 +214,17 @@ fn with_image(s: &[u8], search: Search, n: usize, i: usize, image: ImageAt, path
 pub struct ImagesAt {
     pub ok: bool,
     pub search: Search,
-    pub end: Found,
+    pub end: Option<usize>,
 }
 
 fn no_images() -> ImagesAt
-    ensures { (view_images result ≡ none) × (result.end ≡ Nothing) }
+    ensures { (view_images result ≡ None) × (result.end ≡ None) }
 {
     let search = not_found(true, 0);
     ImagesAt {
         ok: false,
         search,
-        end: Found::Nothing,
+        end: None,
     }
 }
 
@@ -259,21 +257,21 @@ fn each_image(s: &[u8], at: usize, path: &[u8]) -> ImagesAt
                 return ImagesAt {
                     ok: true,
                     search,
-                    end: Found::At(e),
+                    end: Some(e),
                 };
             }
         }
     }
 }
 
-fn images_field(s: &[u8], found: Found, path: &[u8]) -> ImagesAt
+fn images_field(s: &[u8], found: Option<usize>, path: &[u8]) -> ImagesAt
     ensures { TakesMust s.now found (listing_in path.now images_form) (view_images result) × FoundEnd s.now found result.end }
 {
     match found {
-        Found::Nothing => {
+        None => {
             return no_images();
         }
-        Found::At(x) => {
+        Some(x) => {
             return each_image(s, x, path);
         }
     }
@@ -305,7 +303,7 @@ fn refused(answer: u8) -> TargetsRead
 }
 
 pub fn read_targets(file: &[u8], path: &[u8]) -> TargetsRead
-    ensures { view_targets_read result ≡ some (kept (seen path.now) (targets_in file.now)) }
+    ensures { view_targets_read result ≡ Some (kept (seen path.now) (targets_in file.now)) }
 {
     let opened = envelope::open_envelope(file);
     if opened.answer != 0 {

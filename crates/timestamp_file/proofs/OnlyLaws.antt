@@ -1,6 +1,8 @@
 -- The one member of an object.
 use mathlib.Core.Path.{◌≡◌, refl, sym, ap, ◌∙◌}
-use mathlib.Core.Option.{Option, none, some, bind}
+use Rattle.std.specs.declared.option.Option.{Option}
+use Rattle.std.specs.declared.option.Option.TheVariants.{None, Some}
+use Rattle.canonical_json.specs.Options.{bind}
 use mathlib.Core.Bool.{Bool, true, false}
 use Prim.Native.Nat.{ℕ}
 use native.Mathlib.Omega.{arith}
@@ -11,8 +13,6 @@ use Rattle.canonical_json.specs.Read.{raw}
 use Rattle.canonical_json.specs.Fields.{members, keep}
 use Rattle.lookup.specs.Place.{Stands, PlaceOf, Finds, Takes}
 use Rattle.lookup.specs.Walk.{MembersLeft, members-end, members-at, MembersOf, FirstMember, NextMember}
-use Rattle.lookup.specs.declared.Found.{Found}
-use Rattle.lookup.specs.declared.Found.TheVariants as found
 use Rattle.lookup.specs.declared.Member.{Member}
 use Rattle.lookup.specs.declared.Member.TheVariants.{NoObject, End, At}
 use Rattle.lookup.proofs.MemberLaws.{member-stands, member-name}
@@ -25,31 +25,31 @@ over : {s rest : Bytes} {m : Member} {ms : Members} → MembersLeft s rest m ms 
 over (members-end t) q = refl
 over (members-at t u g) q = let z : ◌≡◌ {A = ℕ} 0 1 = cc in absurd (omega arith)
 
-not-over : {s rest : Bytes} {m : Member} {ms : Members} → MembersLeft s rest m ms → ((e : ℕ) → m ≡ End e → ⊥) → (n : Bytes) (v : Json) (k : Bytes) → single k (mcons n v ms) ≡ none
+not-over : {s rest : Bytes} {m : Member} {ms : Members} → MembersLeft s rest m ms → ((e : ℕ) → m ≡ End e → ⊥) → (n : Bytes) (v : Json) (k : Bytes) → single k (mcons n v ms) ≡ None
 unfolding single
 not-over (members-end {e = e} t) q n v k = absurd (q e refl)
 not-over (members-at t u g) q n v k = refl
 
 module _ (s : Bytes) (p : ℕ) (k : Bytes) {m : Member} (w : FirstMember s p m) where
-  pub only_none : m ≡ NoObject → Finds s p (only k) found.Nothing
+  pub only_none : m ≡ NoObject → Finds s p (only k) None
   unfolding only bind
   only_none q v h = go (members v) (w.means v h)
     where
-      left : {rest : Bytes} {x : Member} {ms : Members} → MembersLeft s rest x ms → x ≡ NoObject → single k ms ≡ none
+      left : {rest : Bytes} {x : Member} {ms : Members} → MembersLeft s rest x ms → x ≡ NoObject → single k ms ≡ None
       left (members-end t) q = let z : ◌≡◌ {A = ℕ} 0 1 = cc in absurd (omega arith)
       left (members-at t u g) q = let z : ◌≡◌ {A = ℕ} 0 1 = cc in absurd (omega arith)
 
-      go : (o : Option Members) → MembersOf s h.rest m o → (o >>= single k) ≡ none
-      go none e = refl
-      go (some ms) l = left l q
+      go : (o : Option Members) → MembersOf s h.rest m o → (o >>= single k) ≡ None
+      go None e = refl
+      go (Some ms) l = left l q
 
-  pub only_end : (e : ℕ) → m ≡ End e → Finds s p (only k) found.Nothing
+  pub only_end : (e : ℕ) → m ≡ End e → Finds s p (only k) None
   unfolding only bind single
   only_end e q v h = go (members v) (w.means v h)
     where
-      go : (o : Option Members) → MembersOf s h.rest m o → (o >>= single k) ≡ none
-      go none e = refl
-      go (some ms) l = rw (over l q) refl
+      go : (o : Option Members) → MembersOf s h.rest m o → (o >>= single k) ≡ None
+      go None e = refl
+      go (Some ms) l = rw (over l q) refl
 
   module _ (i j : ℕ) (q : m ≡ At i j) where
     -- what the members say, from the first on
@@ -62,28 +62,28 @@ module _ (s : Bytes) (p : ℕ) (k : Bytes) {m : Member} (w : FirstMember s p m) 
         left {rest} (members-at {n = n} {v = v} {ms = ms} t u g) = f rest n v ms (members-at t u g)
 
         go : (o : Option Members) → MembersOf s h.rest m o → T (o >>= single k)
-        go none e = let z : ◌≡◌ {A = ℕ} 0 1 = cc in absurd (omega arith)
-        go (some ms) l = left (rw q at l)
+        go None e = let z : ◌≡◌ {A = ℕ} 0 1 = cc in absurd (omega arith)
+        go (Some ms) l = left (rw q at l)
 
     named : {rest : Bytes} (n : Bytes) (v : Json) (ms : Members) → MembersLeft s rest (At i j) (mcons n v ms) → (b : Bool) → b ≡ same (raw (drop i s)) k → same n k ≡ b
     named n v ms l b e = ap (λ (x : Bytes). same x k) (sym (member-name l)) ∙ sym e
 
-    pub only-other : false ≡ same (raw (drop i s)) k → Finds s p (only k) found.Nothing
+    pub only-other : false ≡ same (raw (drop i s)) k → Finds s p (only k) None
     unfolding single keep
-    only-other e = by_first (λ o. o ≡ none) (λ rest n v ms l. go n v ms (named n v ms l false e))
+    only-other e = by_first (λ o. o ≡ None) (λ rest n v ms l. go n v ms (named n v ms l false e))
       where
-        go : (n : Bytes) (v : Json) (ms : Members) → same n k ≡ false → single k (mcons n v ms) ≡ none
+        go : (n : Bytes) (v : Json) (ms : Members) → same n k ≡ false → single k (mcons n v ms) ≡ None
         go n v mnil e = rw e refl
         go n v (mcons m x ms) e = refl
 
     module _ {x : Member} (d : NextMember s j x) where
-      pub only-more : ((e : ℕ) → x ≡ End e → ⊥) → Finds s p (only k) found.Nothing
-      only-more e = by_first (λ o. o ≡ none) (λ rest n v ms l. not-over (d.means i n v ms l) e n v k)
+      pub only-more : ((e : ℕ) → x ≡ End e → ⊥) → Finds s p (only k) None
+      only-more e = by_first (λ o. o ≡ None) (λ rest n v ms l. not-over (d.means i n v ms l) e n v k)
 
-      pub only_one : true ≡ same (raw (drop i s)) k → (e : ℕ) → x ≡ End e → Finds s p (only k) (found.At j)
+      pub only_one : true ≡ same (raw (drop i s)) k → (e : ℕ) → x ≡ End e → Finds s p (only k) (Some j)
       unfolding single keep
       only_one t e q =
-          by_first (λ o. PlaceOf s (found.At j) o)
+          by_first (λ o. PlaceOf s (Some j) o)
           (λ rest n v ms l. (v, rw (over (d.means i n v ms l) q, named n v ms l true t) refl, member-stands l))
 
 -- what is read in it
@@ -92,12 +92,12 @@ unfolding sole only bind
 sole-only k f v = go (members v)
   where
     go : (m : Option Members) → (m >>= λ ms. single k ms >>= f) ≡ ((m >>= single k) >>= f)
-    go none = refl
-    go (some ms) = refl
+    go None = refl
+    go (Some ms) = refl
 
-module _ {A : Type 0} (s : Bytes) (p : ℕ) (k : Bytes) (r : Found) (w : Finds s p (only k) r) (f : Json → Option A) (o : Option A) where
-  pub sole_none : r ≡ found.Nothing → o ≡ none → Takes s p (sole k f) o
-  sole_none q e v h = let n : only k v ≡ none = rw q at (w v h) in e ∙ sym (sole-only k f v ∙ stop f n)
+module _ {A : Type 0} (s : Bytes) (p : ℕ) (k : Bytes) (r : Option ℕ) (w : Finds s p (only k) r) (f : Json → Option A) (o : Option A) where
+  pub sole_none : r ≡ None → o ≡ None → Takes s p (sole k f) o
+  sole_none q e v h = let n : only k v ≡ None = rw q at (w v h) in e ∙ sym (sole-only k f v ∙ stop f n)
 
-  pub sole-at : (x : ℕ) → r ≡ found.At x → Takes s x f o → Takes s p (sole k f) o
-  sole-at x q t v h = let z : PlaceOf s (found.At x) (only k v) = rw q at (w v h) in t z.0 z.2 ∙ sym (sole-only k f v ∙ on f z.1)
+  pub sole-at : (x : ℕ) → r ≡ Some x → Takes s x f o → Takes s p (sole k f) o
+  sole-at x q t v h = let z : PlaceOf s (Some x) (only k v) = rw q at (w v h) in t z.0 z.2 ∙ sym (sole-only k f v ∙ on f z.1)

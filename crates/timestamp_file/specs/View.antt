@@ -1,5 +1,5 @@
 -- What the answers stand for.
-use Rattle.std.proofs.Math.Option.{Option}
+use Rattle.std.specs.declared.option.Option.{Option}
 use Rattle.base.specs.Bytes.{Bytes}
 use Rattle.canonical_json.specs.Json.{Json}
 use Rattle.canonical_json.specs.Fields.{members}

@@ -2,7 +2,6 @@
 #![tactic(auto)]
 
 ghost use Rattle.std.specs.Prelude.{◌≡◌};
-ghost use Rattle.std.proofs.Math.Option.{some};
 ghost use Rattle.base.specs.Bytes.{bytes};
 ghost use Rattle.lookup.specs.Place.{Takes, KnownEnd, FoundEnd};
 ghost use Rattle.rules.specs.Take.{sole};
@@ -43,7 +42,7 @@ fn sole_listed(s: &[u8], at: usize) -> ListedAt
                     return ListedAt {
                         ok: said.ok,
                         listed,
-                        end: Found::At(e),
+                        end: Some(e),
                     };
                 }
                 Member::At { name: _, value: _ } => {
@@ -55,14 +54,14 @@ fn sole_listed(s: &[u8], at: usize) -> ListedAt
 }
 
 // "meta" with the one name `snapshot.json`.
-fn meta_listed(s: &[u8], found: Found) -> ListedAt
+fn meta_listed(s: &[u8], found: Option<usize>) -> ListedAt
     ensures { TakesMust s.now found (sole (bytes "snapshot.json") listed) (view_listed_at result) × FoundEnd s.now found result.end }
 {
     match found {
-        Found::Nothing => {
+        None => {
             return forms::no_listed();
         }
-        Found::At(x) => {
+        Some(x) => {
             return sole_listed(s, x);
         }
     }
@@ -94,7 +93,7 @@ fn refused(answer: u8) -> TimestampRead
 }
 
 pub fn read_timestamp(file: &[u8]) -> TimestampRead
-    ensures { view_timestamp_read result ≡ some (timestamp_in file.now) }
+    ensures { view_timestamp_read result ≡ Some (timestamp_in file.now) }
 {
     let opened = envelope::open_envelope(file);
     if opened.answer != 0 {

@@ -1,7 +1,7 @@
 -- The ways out of `key`: no root, a keyid that is not hex, one that the root does not list, and one that it lists.
 use mathlib.Core.Path.{◌≡◌, refl, sym, ap, subst, ◌∙◌}
 use mathlib.Core.Bool.{Bool, true, false, not}
-use mathlib.Core.Option.{some}
+use Rattle.std.specs.declared.option.Option.TheVariants.{Some}
 use Prim.Native.Nat.{ℕ}
 use native.Mathlib.Omega.{arith}
 use borrow.Author.Tests.{eq-eqb, not-true}
@@ -47,7 +47,7 @@ undone-window n k zeros out z h u =
 
 -- the key table of a root that is held is that of the stored one
 pub held-keys : (s : State) (k : Bytes) (found : Bool) (public : Id) → Asked (key_of k (view_root s.trusted.root).keys) found public
-    → (o : Root) → (view s).root ≡ some o → Asked (key_of k o.keys) found public
+    → (o : Root) → (view s).root ≡ Some o → Asked (key_of k o.keys) found public
 unfolding view state.view
 held-keys s k found public w o e = subst (λ (h : Root). Asked (key_of k h.keys) found public) (kept-is _ _ e).1 w
 
@@ -78,14 +78,14 @@ module _ (self : State) (k : Bytes) (r : PublicKey) where
 
       -- the keyid is hex, and the root is asked for its key
       module _ (d : ok ≡ true) (found : Bool) (public : Id)
-          (w : (o : Root) → (view self).root ≡ some o → Asked (key_of (window out 0 key_size) o.keys) found public) where
+          (w : (o : Root) → (view self).root ≡ Some o → Asked (key_of (window out 0 key_size) o.keys) found public) where
         digits : is_hex key_size k ≡ true
         digits = sym hex-is ∙ d
 
         undone : window out 0 key_size ≡ undo k
         undone = undone-window key_size k zeros out z digits (subst (λ (b : Bool). Undone k zeros b out) d u)
 
-        held : (o : Root) × ((view self).root ≡ some o)
+        held : (o : Root) × ((view self).root ≡ Some o)
         held = (not-absent (view self).root).0 (sym l ∙ h)
 
         asked : Asked (key_of (undo k) held.0.keys) found public

@@ -1,6 +1,6 @@
 -- The ways out of a step: a file that cannot be read, a row of the table that holds, and the state with the file that becomes trusted.
 use mathlib.Core.Path.{◌≡◌, refl, sym, ap, ◌∙◌}
-use mathlib.Core.Option.{some}
+use Rattle.std.specs.declared.option.Option.TheVariants.{Some}
 use mathlib.Core.List.{List}
 use mathlib.Core.Bool.{Bool, true, false}
 use Prim.Native.Nat.{ℕ}
@@ -84,7 +84,7 @@ root-after t o new es e =
 
 -- ## Install
 
-module _ (o : Install) (r : Step) (n : ℕ) (a : rules.Root) (es : List Bytes) (w : view_read n a es ≡ some (root_in o.file)) where
+module _ (o : Install) (r : Step) (n : ℕ) (a : rules.Root) (es : List Bytes) (w : view_read n a es ≡ Some (root_in o.file)) where
   began-refused : (b : State) → view b ≡ blank → (k : ℕ) → install_answer o ≡ k → ¬ (k ≡ 0) → Refuses b k r
       → Began o (number_of r.answer) (view r.state)
   unfolding installed

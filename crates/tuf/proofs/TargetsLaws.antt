@@ -1,7 +1,9 @@
 -- A targets file that was read: the file that it is, by what was looked at in it.
 use mathlib.Core.Path.{◌≡◌, refl, sym, ap, ◌∙◌}
 use mathlib.Core.Logic.{◌⊎◌, inl, inr, ⊎_elim}
-use mathlib.Core.Option.{Option, none, some, bind}
+use Rattle.std.specs.declared.option.Option.{Option}
+use Rattle.std.specs.declared.option.Option.TheVariants.{None, Some}
+use Rattle.canonical_json.specs.Options.{bind}
 use mathlib.Core.List.{List}
 use mathlib.Core.Bool.{Bool, true, false, not}
 use Prim.Native.Nat.{ℕ}
@@ -49,7 +51,7 @@ pub record FileRead (path file : Bytes) (t : TargetsRead) : Type 0 where
   pub dated : Dated targets t.version t.expires.seconds
   pub listing-is : listing path targets.body ≡ listed (view_search t.search)
 
-module _ (path file : Bytes) (t : TargetsRead) (w : view_targets_read t ≡ some (kept (seen path) (targets_in file))) where
+module _ (path file : Bytes) (t : TargetsRead) (w : view_targets_read t ≡ Some (kept (seen path) (targets_in file))) where
   pub targets-unread : ¬ (t.answer ≡ 0) → (table : File (List Image) → List Bytes → List Refusal) → judged (targets_in file) table ≡ t.answer
   unfolding view_targets_read kept judged
   targets-unread x table = let d = read-refused _ _ _ _ w x in go (targets_in file) d.1 d.2
@@ -108,19 +110,19 @@ module _ (path : Bytes) (is : List Image) (search : Search) (e : listing path is
   image-listed = go (image_of path is) search.listed image-read
     where
       go : (o : Option Image) (b : Bool) → found_of o ≡ keep b (image_read search) → b ≡ not (absent o)
-      go none false e = refl
-      go none true e = none-not-some e
-      go (some i) false e = none-not-some (sym e)
-      go (some i) true e = refl
+      go None false e = refl
+      go None true e = none-not-some e
+      go (Some i) false e = none-not-some (sym e)
+      go (Some i) true e = refl
 
   pub image-is : absent (image_of path is) ≡ false → image_read search ≡ the_image (image_of path is)
   unfolding found_of keep bind the_image
   image-is h = go (image_of path is) search.listed image-read h
     where
       go : (o : Option Image) (b : Bool) → found_of o ≡ keep b (image_read search) → absent o ≡ false → image_read search ≡ the_image o
-      go none b e h = never h
-      go (some i) false e h = none-not-some (sym e)
-      go (some i) true e h = sym (some_is e)
+      go None b e h = never h
+      go (Some i) false e h = none-not-some (sym e)
+      go (Some i) true e h = sym (some_is e)
 
 module _ (self : State) (q : Query) where
   -- a refusal that answers n

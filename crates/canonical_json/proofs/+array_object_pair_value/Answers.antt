@@ -1,6 +1,6 @@
 -- The readers of values, arrays, objects and members, which call one another, meet their contracts: each way out is one law.
 use mathlib.Core.Path.{sym, ◌∙◌}
-use mathlib.Core.Option.{none}
+use Rattle.std.specs.declared.option.Option.TheVariants.{None}
 use native.Mathlib.Omega.{arith}
 use Rattle.canonical_json.specs.Read.{read}
 use Rattle.canonical_json.specs.Names.{last_of}
@@ -30,35 +30,35 @@ array-loop-i-init t c =
 pub array-value-requires : goal.array-value-requires
 array-value-requires t c = (omega arith, tt)
 
-pub array-returns-in-No : goal.array-returns-in-No
-array-returns-in-No t c =
+pub array-returns-in-None : goal.array-returns-in-None
+array-returns-in-None t c =
     let a = c.args in
     let s = a.s.now in
-    sym (c.loop-i.invariant ∙ loops.no-element (arrays a.depth) s tt c.loop-i.i (sym c.value.ensures ∙ c.in-No.is))
+    sym (c.loop-i.invariant ∙ loops.no-element (arrays a.depth) s tt c.loop-i.i (sym c.value.ensures ∙ c.in-None.is))
 
 pub array-returns-then-s-e : goal.array-returns-then-s-e
 array-returns-then-s-e t c =
     let a = c.args in
     let s = a.s.now in
-    sym (c.loop-i.invariant ∙ loops.cut (arrays a.depth) s tt c.loop-i.i c.in-End.e (sym c.value.ensures ∙ c.in-End.is) c.if-s-e.true)
+    sym (c.loop-i.invariant ∙ loops.cut (arrays a.depth) s tt c.loop-i.i c.in-Some.e (sym c.value.ensures ∙ c.in-Some.is) c.if-s-e.true)
 
 pub array-returns-then-c-eq93 : goal.array-returns-then-c-eq93
 array-returns-then-c-eq93 t c =
     let a = c.args in
     let s = a.s.now in
-    sym (c.loop-i.invariant ∙ loops.last (arrays a.depth) s tt c.loop-i.i c.in-End.e (sym c.value.ensures ∙ c.in-End.is) c.if-s-e.false c.if-c-eq93.true)
+    sym (c.loop-i.invariant ∙ loops.last (arrays a.depth) s tt c.loop-i.i c.in-Some.e (sym c.value.ensures ∙ c.in-Some.is) c.if-s-e.false c.if-c-eq93.true)
 
 pub array-returns-then-c-ne44 : goal.array-returns-then-c-ne44
 array-returns-then-c-ne44 t c =
     let a = c.args in
     let s = a.s.now in
-    sym (c.loop-i.invariant ∙ loops.stray (arrays a.depth) s tt c.loop-i.i c.in-End.e (sym c.value.ensures ∙ c.in-End.is) c.if-s-e.false c.if-c-eq93.false c.if-c-ne44.true)
+    sym (c.loop-i.invariant ∙ loops.stray (arrays a.depth) s tt c.loop-i.i c.in-Some.e (sym c.value.ensures ∙ c.in-Some.is) c.if-s-e.false c.if-c-eq93.false c.if-c-ne44.true)
 
 pub array-loop-i-smaller : goal.array-loop-i-smaller
 array-loop-i-smaller t c =
     let a = c.args in
     let s = a.s.now in
-    let z = (loops.element (arrays a.depth) s tt c.loop-i.i c.in-End.e (sym c.value.ensures ∙ c.in-End.is)).after in
+    let z = (loops.element (arrays a.depth) s tt c.loop-i.i c.in-Some.e (sym c.value.ensures ∙ c.in-Some.is)).after in
     let h = c.if-s-e.false in
     omega arith
 
@@ -66,7 +66,7 @@ pub array-loop-i-preserved : goal.array-loop-i-preserved
 array-loop-i-preserved t c =
     let a = c.args in
     let s = a.s.now in
-    c.loop-i.invariant ∙ loops.onward (arrays a.depth) s tt c.loop-i.i c.in-End.e (sym c.value.ensures ∙ c.in-End.is) c.if-s-e.false c.if-c-eq93.false c.if-c-ne44.false
+    c.loop-i.invariant ∙ loops.onward (arrays a.depth) s tt c.loop-i.i c.in-Some.e (sym c.value.ensures ∙ c.in-Some.is) c.if-s-e.false c.if-c-eq93.false c.if-c-ne44.false
 
 pub array-returns : goal.array-returns
 array-returns t c =
@@ -79,55 +79,55 @@ array-returns t c =
 pub object-returns-then-s-at : goal.object-returns-then-s-at
 object-returns-then-s-at t c =
     let a = c.args in
-    sym (loops.over (objects a.depth) a.s.now none a.at c.if-s-at.true)
+    sym (loops.over (objects a.depth) a.s.now None a.at c.if-s-at.true)
 
 pub object-returns-then-s-at-eq125 : goal.object-returns-then-s-at-eq125
 object-returns-then-s-at-eq125 t c =
     let a = c.args in
-    sym (loops.empty (objects a.depth) a.s.now none a.at c.if-s-at.false c.if-s-at-eq125.true)
+    sym (loops.empty (objects a.depth) a.s.now None a.at c.if-s-at.false c.if-s-at-eq125.true)
 
 pub object-loop-i-init : goal.object-loop-i-init
 object-loop-i-init t c =
     let a = c.args in
-    loops.begun (objects a.depth) a.s.now none a.at c.if-s-at.false c.if-s-at-eq125.false
+    loops.begun (objects a.depth) a.s.now None a.at c.if-s-at.false c.if-s-at-eq125.false
 
 pub object-pair-requires : goal.object-pair-requires
 object-pair-requires t c = (omega arith, tt)
 
-pub object-returns-in-No : goal.object-returns-in-No
-object-returns-in-No t c =
+pub object-returns-in-None : goal.object-returns-in-None
+object-returns-in-None t c =
     let a = c.args in
     let s = a.s.now in
     let p = last_of s c.loop-i.last in
-    sym (c.loop-i.invariant ∙ loops.no-element (objects a.depth) s p c.loop-i.i (sym c.pair.ensures ∙ c.in-No.is))
+    sym (c.loop-i.invariant ∙ loops.no-element (objects a.depth) s p c.loop-i.i (sym c.pair.ensures ∙ c.in-None.is))
 
 pub object-returns-then-s-e : goal.object-returns-then-s-e
 object-returns-then-s-e t c =
     let a = c.args in
     let s = a.s.now in
     let p = last_of s c.loop-i.last in
-    sym (c.loop-i.invariant ∙ loops.cut (objects a.depth) s p c.loop-i.i c.in-End.e (sym c.pair.ensures ∙ c.in-End.is) c.if-s-e.true)
+    sym (c.loop-i.invariant ∙ loops.cut (objects a.depth) s p c.loop-i.i c.in-Some.e (sym c.pair.ensures ∙ c.in-Some.is) c.if-s-e.true)
 
 pub object-returns-then-c-eq125 : goal.object-returns-then-c-eq125
 object-returns-then-c-eq125 t c =
     let a = c.args in
     let s = a.s.now in
     let p = last_of s c.loop-i.last in
-    sym (c.loop-i.invariant ∙ loops.last (objects a.depth) s p c.loop-i.i c.in-End.e (sym c.pair.ensures ∙ c.in-End.is) c.if-s-e.false c.if-c-eq125.true)
+    sym (c.loop-i.invariant ∙ loops.last (objects a.depth) s p c.loop-i.i c.in-Some.e (sym c.pair.ensures ∙ c.in-Some.is) c.if-s-e.false c.if-c-eq125.true)
 
 pub object-returns-then-c-ne44 : goal.object-returns-then-c-ne44
 object-returns-then-c-ne44 t c =
     let a = c.args in
     let s = a.s.now in
     let p = last_of s c.loop-i.last in
-    sym (c.loop-i.invariant ∙ loops.stray (objects a.depth) s p c.loop-i.i c.in-End.e (sym c.pair.ensures ∙ c.in-End.is) c.if-s-e.false c.if-c-eq125.false c.if-c-ne44.true)
+    sym (c.loop-i.invariant ∙ loops.stray (objects a.depth) s p c.loop-i.i c.in-Some.e (sym c.pair.ensures ∙ c.in-Some.is) c.if-s-e.false c.if-c-eq125.false c.if-c-ne44.true)
 
 pub object-loop-i-smaller : goal.object-loop-i-smaller
 object-loop-i-smaller t c =
     let a = c.args in
     let s = a.s.now in
     let p = last_of s c.loop-i.last in
-    let z = (loops.element (objects a.depth) s p c.loop-i.i c.in-End.e (sym c.pair.ensures ∙ c.in-End.is)).after in
+    let z = (loops.element (objects a.depth) s p c.loop-i.i c.in-Some.e (sym c.pair.ensures ∙ c.in-Some.is)).after in
     let h = c.if-s-e.false in
     omega arith
 
@@ -136,7 +136,7 @@ object-loop-i-preserved t c =
     let a = c.args in
     let s = a.s.now in
     let p = last_of s c.loop-i.last in
-    c.loop-i.invariant ∙ members.onward a.depth p s c.loop-i.i c.in-End.e (sym c.pair.ensures ∙ c.in-End.is) c.if-s-e.false c.if-c-eq125.false c.if-c-ne44.false
+    c.loop-i.invariant ∙ members.onward a.depth p s c.loop-i.i c.in-Some.e (sym c.pair.ensures ∙ c.in-Some.is) c.if-s-e.false c.if-c-eq125.false c.if-c-ne44.false
 
 pub object-returns : goal.object-returns
 object-returns t c =
@@ -157,41 +157,41 @@ pair-returns-then-s-i-ne34 t c =
     let a = c.args in
     sym (members.no-quote (read a.depth) (last_of a.s.now a.last) a.s.now a.i c.if-s-i.false c.if-s-i-ne34.true)
 
-pub pair-returns-in-No : goal.pair-returns-in-No
-pair-returns-in-No t c =
+pub pair-returns-in-None : goal.pair-returns-in-None
+pair-returns-in-None t c =
     let a = c.args in
     sym (members.no_name (read a.depth) (last_of a.s.now a.last) a.s.now a.i
-    c.if-s-i.false c.if-s-i-ne34.false (sym c.string.ensures ∙ c.in-No.is))
+    c.if-s-i.false c.if-s-i-ne34.false (sym c.string.ensures ∙ c.in-None.is))
 
 pub pair-returns-then-not-in_order : goal.pair-returns-then-not-in_order
 pair-returns-then-not-in_order t c =
     let a = c.args in
     sym (members.disorder (read a.depth) (last_of a.s.now a.last) a.s.now a.i
-    c.if-s-i.false c.if-s-i-ne34.false c.in-End.e (sym c.string.ensures ∙ c.in-End.is)
+    c.if-s-i.false c.if-s-i-ne34.false c.in-Some.e (sym c.string.ensures ∙ c.in-Some.is)
     (sym c.in_order.ensures ∙ c.if-not-in_order.true))
 
 pub pair-returns-then-s-e : goal.pair-returns-then-s-e
 pair-returns-then-s-e t c =
     let a = c.args in
     sym (members.cut (read a.depth) (last_of a.s.now a.last) a.s.now a.i
-    c.if-s-i.false c.if-s-i-ne34.false c.in-End.e (sym c.string.ensures ∙ c.in-End.is) c.if-s-e.true
+    c.if-s-i.false c.if-s-i-ne34.false c.in-Some.e (sym c.string.ensures ∙ c.in-Some.is) c.if-s-e.true
     (sym c.in_order.ensures ∙ c.if-not-in_order.false))
 
 pub pair-returns-then-s-e-ne58 : goal.pair-returns-then-s-e-ne58
 pair-returns-then-s-e-ne58 t c =
     let a = c.args in
     sym (members.no-colon (read a.depth) (last_of a.s.now a.last) a.s.now a.i
-    c.if-s-i.false c.if-s-i-ne34.false c.in-End.e (sym c.string.ensures ∙ c.in-End.is) c.if-s-e.false c.if-s-e-ne58.true
+    c.if-s-i.false c.if-s-i-ne34.false c.in-Some.e (sym c.string.ensures ∙ c.in-Some.is) c.if-s-e.false c.if-s-e-ne58.true
     (sym c.in_order.ensures ∙ c.if-not-in_order.false))
 
 pub pair-value-requires : goal.pair-value-requires
 pair-value-requires t c = (omega arith, tt)
 
-pub pair-returns-in-End : goal.pair-returns-in-End
-pair-returns-in-End t c =
+pub pair-returns-in-Some : goal.pair-returns-in-Some
+pair-returns-in-Some t c =
     let a = c.args in
     c.value.ensures ∙ sym (members.then-value (read a.depth) (last_of a.s.now a.last) a.s.now a.i
-    c.if-s-i.false c.if-s-i-ne34.false c.in-End.e (sym c.string.ensures ∙ c.in-End.is) c.if-s-e.false c.if-s-e-ne58.false
+    c.if-s-i.false c.if-s-i-ne34.false c.in-Some.e (sym c.string.ensures ∙ c.in-Some.is) c.if-s-e.false c.if-s-e-ne58.false
     (sym c.in_order.ensures ∙ c.if-not-in_order.false))
 
 -- ## `value`

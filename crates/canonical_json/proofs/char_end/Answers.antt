@@ -27,16 +27,16 @@ returns-then-b-lt128 c =
     let h : get_or s a.i 0 < 128 = c.if-b-lt128.true in
     (strings.plain s a.i c.requires.0 c.requires.1 c.if-b-eq92.false c.if-b-lt32.false (omega arith), omega arith)
 
-pub returns-in-Bad : goal.returns-in-Bad
-returns-in-Bad c =
+pub returns-in-None : goal.returns-in-None
+returns-in-None c =
     let a = c.args in
     let s = a.s.now in
-    strings.no_lead s a.i c.requires.0 c.requires.1 c.if-b-eq92.false (sym c.lead.ensures ∙ c.in-Bad.is)
+    strings.no_lead s a.i c.requires.0 c.requires.1 c.if-b-eq92.false (sym c.lead.ensures ∙ c.in-None.is)
 
-pub returns-in-Seq : goal.returns-in-Seq
-returns-in-Seq c =
+pub returns-in-Some : goal.returns-in-Some
+returns-in-Some c =
     let a = c.args in
     let s = a.s.now in
-    let w = c.in-Seq in
+    let w = c.in-Some.field-0 in
     strings.skips_from s (read_str (drop a.i s)) (chars (drop (a.i + 1) s) w.more w.lo w.hi) (a.i + 1) c.tail_end.result
-    (strings.begun s a.i c.requires.0 c.requires.1 c.if-b-eq92.false w.more w.lo w.hi (sym c.lead.ensures ∙ w.is)) c.tail_end.ensures
+    (strings.begun s a.i c.requires.0 c.requires.1 c.if-b-eq92.false w.more w.lo w.hi (sym c.lead.ensures ∙ c.in-Some.is)) c.tail_end.ensures

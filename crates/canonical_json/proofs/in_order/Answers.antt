@@ -1,5 +1,5 @@
 -- `canonical_json::in_order` meets its contract.
 use Rattle.canonical_json.proofs.in_order.Goals as goal
 
-pub returns-in-Name : goal.returns-in-Name
-returns-in-Name c = rw c.in-Name.is c.name_less.ensures
+pub returns-in-Some : goal.returns-in-Some
+returns-in-Some c = rw c.in-Some.is c.name_less.ensures

@@ -4,8 +4,8 @@ use Rattle.canonical_json.specs.Json.{max_depth}
 use Rattle.canonical_json.proofs.Canonical.{verdict-no, verdict-end}
 use Rattle.canonical_json.proofs.is_canonical.Goals as goal
 
-pub returns-in-No : goal.returns-in-No
-returns-in-No c = verdict-no max_depth _ (sym c.value.ensures ∙ c.in-No.is)
+pub returns-in-None : goal.returns-in-None
+returns-in-None c = verdict-no max_depth _ (sym c.value.ensures ∙ c.in-None.is)
 
-pub returns-in-End : goal.returns-in-End
-returns-in-End c = verdict-end max_depth _ _ (sym c.value.ensures ∙ c.in-End.is)
+pub returns-in-Some : goal.returns-in-Some
+returns-in-Some c = verdict-end max_depth _ _ (sym c.value.ensures ∙ c.in-Some.is)

@@ -4,7 +4,7 @@ use native.Mathlib.Omega.{arith}
 use lib.ListN.{drop}
 use Rattle.canonical_json.specs.Read.{read_str}
 use Rattle.canonical_json.specs.Strings.{Skips}
-use Rattle.canonical_json.specs.declared.Skip.TheVariants.{No, End}
+use Rattle.std.specs.declared.option.Option.TheVariants.{None, Some}
 use Rattle.canonical_json.proofs.Chars as strings
 use Rattle.canonical_json.proofs.string.Goals as goal
 
@@ -19,22 +19,22 @@ returns-then-s-i-eq34 c =
 pub char_end-requires : goal.char_end-requires
 char_end-requires c = (c.loop-i-test.true, c.if-s-i-eq34.false)
 
-pub returns-in-No : goal.returns-in-No
-returns-in-No c =
+pub returns-in-None : goal.returns-in-None
+returns-in-None c =
     let s = c.args.s.now in
-    let e : Skips s (read_str (drop c.loop-i.i s)) (c.loop-i.i + 1) No = rw c.in-No.is at c.char_end.ensures in
+    let e : Skips s (read_str (drop c.loop-i.i s)) (c.loop-i.i + 1) None = rw c.in-None.is at c.char_end.ensures in
     sym (c.loop-i.invariant ∙ e)
 
 pub loop-i-smaller : goal.loop-i-smaller
 loop-i-smaller c =
     let s = c.args.s.now in
-    let e : Skips s (read_str (drop c.loop-i.i s)) (c.loop-i.i + 1) (End c.in-End.e) = rw c.in-End.is at c.char_end.ensures in
+    let e : Skips s (read_str (drop c.loop-i.i s)) (c.loop-i.i + 1) (Some c.in-Some.e) = rw c.in-Some.is at c.char_end.ensures in
     omega (arith, e.1, c.loop-i-test.true)
 
 pub loop-i-preserved : goal.loop-i-preserved
 loop-i-preserved c =
     let s = c.args.s.now in
-    let e : Skips s (read_str (drop c.loop-i.i s)) (c.loop-i.i + 1) (End c.in-End.e) = rw c.in-End.is at c.char_end.ensures in
+    let e : Skips s (read_str (drop c.loop-i.i s)) (c.loop-i.i + 1) (Some c.in-Some.e) = rw c.in-Some.is at c.char_end.ensures in
     c.loop-i.invariant ∙ e.0
 
 pub returns : goal.returns

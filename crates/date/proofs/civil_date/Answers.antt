@@ -3,7 +3,7 @@ use mathlib.Core.Path.{◌≡◌, ◌∙◌, ap}
 use Prim.Native.Nat.{ℕ, ◌≤◌}
 use Rattle.date.specs.Calendar.{month_days}
 use Rattle.date.specs.Parts.{Civil}
-use mathlib.Core.Option.{some}
+use Rattle.std.specs.declared.option.Option.TheVariants.{Some}
 use native.Mathlib.Omega.{arith}
 use mir.Syntax.{w64}
 use mir.Val.{to_z, of_z}
@@ -55,4 +55,4 @@ pub returns : goal.returns
 returns c =
     let r = c.civil_seconds.result in
     let e : to_z w64 (of_z w64 r) ≡ r = search rules in
-    ap some (e ∙ c.civil_seconds.ensures) ∙ civil _ _ _ _ _ _ (search (rules, in_range)) (omega arith)
+    ap Some (e ∙ c.civil_seconds.ensures) ∙ civil _ _ _ _ _ _ (search (rules, in_range)) (omega arith)

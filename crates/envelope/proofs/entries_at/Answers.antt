@@ -1,5 +1,5 @@
 use mathlib.Core.Path.{refl, sym, ap, ◌∙◌}
-use mathlib.Core.Option.{some}
+use Rattle.std.specs.declared.option.Option.TheVariants.{Some}
 use native.Mathlib.Omega.{arith}
 use borrow.Author.Tests.{not-true, not-false}
 use lib.ListN.{length-set}
@@ -80,7 +80,7 @@ returns-in-End c =
     let l = c.loop-e in
     let q = c.in-End.is in (
       λ v h.
-          ap some (front-firsts view_id no_id l.ids l.n max_entries l.invariant.0)
+          ap Some (front-firsts view_id no_id l.ids l.n max_entries l.invariant.0)
           ∙ items-over keyid_of 0 max_entries s l.e l.n (front view_id no_id l.ids l.n) _ (l.invariant.3 v h) _ q (omega arith) l.invariant.0
           ∙ sym (keyids-each v),
       end.items-over s _ l.e l.invariant.2 _ q,

@@ -21,30 +21,30 @@ returns-then-not-spec c =
     let m = c.find_members_by-m.ensures k in
     c.no_header-then-not-spec.ensures ∙ no-spec _ v _ (c.word_field.ensures _ _ m.first.means v h) c.if-not-word_field.false _ _ (c.spec_field-spec.ensures _ _ m.second.means v h) (not-true _ c.if-not-spec.true)
 
-pub returns-in-No : goal.returns-in-No
+pub returns-in-None : goal.returns-in-None
 unfolding view_spec version
-returns-in-No c =
+returns-in-None c =
     λ k v h.
     let m = c.find_members_by-m.ensures k in
-    c.no_header-in-No.ensures
+    c.no_header-in-None.ensures
     ∙ no-version _ v _ (c.word_field.ensures _ _ m.first.means v h) c.if-not-word_field.false _ _ (c.spec_field-spec.ensures _ _ m.second.means v h) (not-false _ c.if-not-spec.false)
-    (ap view_number (sym c.in-No.is) ∙ c.version_field.ensures _ _ m.third.means v h)
+    ((sym c.in-None.is) ∙ c.version_field.ensures _ _ m.third.means v h)
 
-pub returns-in-Bad : goal.returns-in-Bad
+pub returns-in-None : goal.returns-in-None
 unfolding view_spec version
-returns-in-Bad c =
+returns-in-None c =
     λ k v h.
     let m = c.find_members_by-m.ensures k in
-    c.no_header-in-Bad.ensures
+    c.no_header-in-None.ensures
     ∙ no_date _ v _ (c.word_field.ensures _ _ m.first.means v h) c.if-not-word_field.false _ _ (c.spec_field-spec.ensures _ _ m.second.means v h) (not-false _ c.if-not-spec.false)
-    _ (ap view_number (sym c.in-Is.is) ∙ c.version_field.ensures _ _ m.third.means v h)
-    (ap view_date (sym c.in-Bad.is) ∙ c.date_field.ensures _ _ m.fourth.means v h)
+    _ ((sym c.in-Some.is) ∙ c.version_field.ensures _ _ m.third.means v h)
+    (ap view_date (sym c.in-None.is) ∙ c.date_field.ensures _ _ m.fourth.means v h)
 
-pub returns-in-At : goal.returns-in-At
+pub returns-in-Some : goal.returns-in-Some
 unfolding view_spec version view_header
-returns-in-At c =
+returns-in-Some c =
     λ k v h.
     let m = c.find_members_by-m.ensures k in
     header_is _ v _ (c.word_field.ensures _ _ m.first.means v h) c.if-not-word_field.false _ _ (c.spec_field-spec.ensures _ _ m.second.means v h) (not-false _ c.if-not-spec.false)
-    _ (ap view_number (sym c.in-Is.is) ∙ c.version_field.ensures _ _ m.third.means v h)
-    _ (ap view_date (sym c.in-At.is) ∙ c.date_field.ensures _ _ m.fourth.means v h)
+    _ ((sym c.in-Some.is) ∙ c.version_field.ensures _ _ m.third.means v h)
+    _ (ap view_date (sym c.in-Some.is) ∙ c.date_field.ensures _ _ m.fourth.means v h)

@@ -5,9 +5,9 @@ use Rattle.forms.proofs.StepLaws.{must-none, must-at}
 use Rattle.envelope.specs.Header.{view_spec}
 use Rattle.envelope.proofs.spec_field.Goals as goal
 
-pub returns-in-Nothing : goal.returns-in-Nothing
+pub returns-in-None : goal.returns-in-None
 unfolding view_spec keep
-returns-in-Nothing c = λ p k w. must-none _ p k w _ _ c.in-Nothing.is refl
+returns-in-None c = λ p k w. must-none _ p k w _ _ c.in-None.is refl
 
-pub returns-in-At : goal.returns-in-At
-returns-in-At c = λ p k w. must-at _ p k w _ _ _ c.in-At.is c.spec_at.ensures
+pub returns-in-Some : goal.returns-in-Some
+returns-in-Some c = λ p k w. must-at _ p k w _ _ _ c.in-Some.is c.spec_at.ensures

@@ -7,25 +7,25 @@ use Rattle.envelope.specs.Header.{view_entry}
 use Rattle.envelope.proofs.EntryLaws.{no-keyid, no-sig, entry-is, broken-entry}
 use Rattle.envelope.proofs.walked_entry.Goals as goal
 
-pub returns-in-Nothing : goal.returns-in-Nothing
+pub returns-in-None : goal.returns-in-None
 unfolding undone_at
-returns-in-Nothing c =
+returns-in-None c =
     let m = c.find_members-m.ensures in
-    broken-entry _ _ _ c.no_entry.ensures.0 c.no_entry.ensures.1 (λ v g. no-keyid v (ap (undone_at _) (sym c.in-Nothing.is) ∙ c.digits_field.ensures.0 _ _ m.first.means v g))
+    broken-entry _ _ _ c.no_entry.ensures.0 c.no_entry.ensures.1 (λ v g. no-keyid v (ap (undone_at _) (sym c.in-None.is) ∙ c.digits_field.ensures.0 _ _ m.first.means v g))
 
-pub returns-in-Nothing-digits_field : goal.returns-in-Nothing-digits_field
+pub returns-in-None-digits_field : goal.returns-in-None-digits_field
 unfolding undone_at
-returns-in-Nothing-digits_field c =
+returns-in-None-digits_field c =
     let m = c.find_members-m.ensures in
-    broken-entry _ _ _ c.no_entry-in-Nothing-digits_field.ensures.0 c.no_entry-in-Nothing-digits_field.ensures.1 (λ v g. no-sig v _ (ap (undone_at _) (sym c.in-At.is) ∙ c.digits_field.ensures.0 _ _ m.first.means v g) (ap (undone_at _) (sym c.in-Nothing-digits_field.is) ∙ c.digits_field-in-At.ensures.0 _ _ m.second.means v g))
+    broken-entry _ _ _ c.no_entry-in-None-digits_field.ensures.0 c.no_entry-in-None-digits_field.ensures.1 (λ v g. no-sig v _ (ap (undone_at _) (sym c.in-Some.is) ∙ c.digits_field.ensures.0 _ _ m.first.means v g) (ap (undone_at _) (sym c.in-None-digits_field.is) ∙ c.digits_field-in-Some.ensures.0 _ _ m.second.means v g))
 
-pub returns-in-At-digits_field : goal.returns-in-At-digits_field
+pub returns-in-Some-digits_field : goal.returns-in-Some-digits_field
 unfolding undone_at view_entry keep
-returns-in-At-digits_field c =
+returns-in-Some-digits_field c =
     let m = c.find_members-m.ensures in
     record {
-      means = λ v g. entry-is v _ (ap (undone_at _) (sym c.in-At.is) ∙ c.digits_field.ensures.0 _ _ m.first.means v g) _ (ap (undone_at _) (sym c.in-At-digits_field.is) ∙ c.digits_field-in-At.ensures.0 _ _ m.second.means v g);
-      keyid = λ _. hex-at _ _ _ _ c.in-At.is c.digits_field.ensures.1;
-      sig = λ _. hex-at _ _ _ _ c.in-At-digits_field.is c.digits_field-in-At.ensures.1;
+      means = λ v g. entry-is v _ (ap (undone_at _) (sym c.in-Some.is) ∙ c.digits_field.ensures.0 _ _ m.first.means v g) _ (ap (undone_at _) (sym c.in-Some-digits_field.is) ∙ c.digits_field-in-Some.ensures.0 _ _ m.second.means v g);
+      keyid = λ _. hex-at _ _ _ _ c.in-Some.is c.digits_field.ensures.1;
+      sig = λ _. hex-at _ _ _ _ c.in-Some-digits_field.is c.digits_field-in-Some.ensures.1;
       end = m.end;
     }

@@ -4,10 +4,10 @@ use Rattle.rules.specs.Take.{date}
 use mathlib.Core.Path.{refl}
 use Rattle.forms.proofs.date_at.Goals as goal
 
-pub returns-in-Nothing : goal.returns-in-Nothing
+pub returns-in-None : goal.returns-in-None
 unfolding date
-returns-in-Nothing c = text-none _ _ c.string_at.ensures _ _ c.in-Nothing.is refl
+returns-in-None c = text-none _ _ c.string_at.ensures _ _ c.in-None.is refl
 
-pub returns-in-At : goal.returns-in-At
+pub returns-in-Some : goal.returns-in-Some
 unfolding date
-returns-in-At c = text_at _ _ c.string_at.ensures _ _ _ c.in-At.is c.date_in.ensures
+returns-in-Some c = text_at _ _ c.string_at.ensures _ _ _ c.in-Some.is c.date_in.ensures

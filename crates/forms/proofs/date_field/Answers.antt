@@ -3,8 +3,8 @@ use mathlib.Core.Path.{refl}
 use Rattle.forms.proofs.StepLaws.{must-none, must-at}
 use Rattle.forms.proofs.date_field.Goals as goal
 
-pub returns-in-Nothing : goal.returns-in-Nothing
-returns-in-Nothing c = λ p k w. must-none _ p k w _ _ c.in-Nothing.is refl
+pub returns-in-None : goal.returns-in-None
+returns-in-None c = λ p k w. must-none _ p k w _ _ c.in-None.is refl
 
-pub returns-in-At : goal.returns-in-At
-returns-in-At c = λ p k w. must-at _ p k w _ _ _ c.in-At.is c.date_at.ensures
+pub returns-in-Some : goal.returns-in-Some
+returns-in-Some c = λ p k w. must-at _ p k w _ _ _ c.in-Some.is c.date_at.ensures

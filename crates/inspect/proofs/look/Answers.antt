@@ -11,18 +11,18 @@ returns-then-opened-ne0 c =
     let o = c.open_envelope-opened in
     c.no_look.ensures ∙ look-refused c.args.file.now o.result o.ensures c.if-opened-ne0.true _ c.numbered-refusal.ensures
 
-pub returns-in-Nothing : goal.returns-in-Nothing
-returns-in-Nothing c =
+pub returns-in-None : goal.returns-in-None
+returns-in-None c =
     let o = c.open_envelope-opened in
     let e = c.value_end in
-    look-endless c.args.file.now o.result o.ensures c.if-opened-ne0.false e.result e.ensures (λ l. view_look c.no_look-in-Nothing.result ≡ l) c.in-Nothing.is
+    look-endless c.args.file.now o.result o.ensures c.if-opened-ne0.false e.result e.ensures (λ l. view_look c.no_look-in-None.result ≡ l) c.in-None.is
 
 pub overflow_sub-result : goal.overflow_sub-result
-overflow_sub-result c = let p = (place_after c.args.file.now _ _ c.value_end.ensures.onward _ c.in-At.is).0 in omega arith
+overflow_sub-result c = let p = (place_after c.args.file.now _ _ c.value_end.ensures.onward _ c.in-Some.is).0 in omega arith
 
-pub returns-in-At : goal.returns-in-At
+pub returns-in-Some : goal.returns-in-Some
 unfolding view_look
-returns-in-At c =
+returns-in-Some c =
     let o = c.open_envelope-opened in
     let e = c.value_end in
-    look_is c.args.file.now o.result o.ensures c.if-opened-ne0.false e.result e.ensures _ _ c.in-At.is c.at_most-entries.ensures
+    look_is c.args.file.now o.result o.ensures c.if-opened-ne0.false e.result e.ensures _ _ c.in-Some.is c.at_most-entries.ensures

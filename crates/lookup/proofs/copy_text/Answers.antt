@@ -15,15 +15,15 @@ loop-b-init c =
     let len = c.text_len.ensures in
     (omega arith, refl, strings.copied_sets _ _ (omega arith))
 
-pub shape_of-out-in-Close : goal.shape_of-out-in-Close
-shape_of-out-in-Close c = c.loop-b.invariant.1
+pub shape_of-out-in-None : goal.shape_of-out-in-None
+shape_of-out-in-None c = c.loop-b.invariant.1
 
-pub returns-in-Close : goal.returns-in-Close
-returns-in-Close c =
+pub returns-in-None : goal.returns-in-None
+returns-in-None c =
     let a = c.args in
     let s = a.s.now in
     let l = c.loop-b in
-    let e = strings.char_close s l.p _ c.char_at.ensures.means c.in-Close.is in
+    let e = strings.char_close s l.p _ c.char_at.ensures.means c.in-None.is in
     let len = c.text_len.ensures in
     strings.copy_done _ _ (omega (arith, c.if-out-text_len.false)) _ _ _ l.invariant.2 e
 
@@ -32,7 +32,7 @@ bounds-out-n c =
     let a = c.args in
     let s = a.s.now in
     let l = c.loop-b in
-    let x = strings.char_byte s l.p _ c.char_at.ensures.means _ _ c.in-Byte.is in
+    let x = strings.char_byte s l.p _ c.char_at.ensures.means _ _ c.in-Some.is in
     let z = ap length x.0 in
     omega (arith, l.invariant.0)
 
@@ -41,7 +41,7 @@ overflow_add-n c =
     let a = c.args in
     let s = a.s.now in
     let l = c.loop-b in
-    let x = strings.char_byte s l.p _ c.char_at.ensures.means _ _ c.in-Byte.is in
+    let x = strings.char_byte s l.p _ c.char_at.ensures.means _ _ c.in-Some.is in
     let z = ap length x.0 in
     omega (arith, l.invariant.0)
 
@@ -50,7 +50,7 @@ loop-b-smaller c =
     let a = c.args in
     let s = a.s.now in
     let l = c.loop-b in
-    let x = strings.char_byte s l.p _ c.char_at.ensures.means _ _ c.in-Byte.is in
+    let x = strings.char_byte s l.p _ c.char_at.ensures.means _ _ c.in-Some.is in
     let m = x.1 in
     let n = x.2 in
     omega arith
@@ -60,6 +60,6 @@ loop-b-preserved c =
     let a = c.args in
     let s = a.s.now in
     let l = c.loop-b in
-    let x = strings.char_byte s l.p _ c.char_at.ensures.means _ _ c.in-Byte.is in
+    let x = strings.char_byte s l.p _ c.char_at.ensures.means _ _ c.in-Some.is in
     let z = ap length x.0 in
     (simp length-set (omega (arith, l.invariant.0)), simp length-set l.invariant.1, l.invariant.2 ∙ strings.set_next l.out l.n _ _ _ x.0)

@@ -1,5 +1,5 @@
 use mathlib.Core.Path.{refl, sym, ◌∙◌}
-use Rattle.lookup.specs.declared.Found.TheVariants.{Nothing}
+use Rattle.std.specs.declared.option.Option.TheVariants.{None}
 use Rattle.lookup.proofs.MemberLaws.{ahead-less}
 use Rattle.lookup.proofs.SeveralLaws.{note-other, seeks_first, seeks_here, seeks_none, seeks_end, seeks_next}
 use Rattle.lookup.proofs.find_member_by.Goals as goal
@@ -19,10 +19,10 @@ loop-m-preserved c =
     let l = c.loop-m in
     λ k.
     let n = c.next_member_by-m.ensures.means (c.known_end-end.ensures s k) in
-    seeks_next s _ _ l.m Nothing (l.invariant k) _ _ c.in-At.is _ n _ (note-other _ _ _ refl (sym c.if-text_is.false ∙ c.text_is.ensures))
+    seeks_next s _ _ l.m None (l.invariant k) _ _ c.in-At.is _ n _ (note-other _ _ _ refl (sym c.if-text_is.false ∙ c.text_is.ensures))
 
 pub returns-in-NoObject : goal.returns-in-NoObject
-returns-in-NoObject c = λ k. seeks_none c.args.s.now _ _ c.loop-m.m Nothing (c.loop-m.invariant k) c.in-NoObject.is
+returns-in-NoObject c = λ k. seeks_none c.args.s.now _ _ c.loop-m.m None (c.loop-m.invariant k) c.in-NoObject.is
 
 pub returns-in-End : goal.returns-in-End
-returns-in-End c = λ k. seeks_end c.args.s.now _ _ c.loop-m.m Nothing (c.loop-m.invariant k) _ c.in-End.is
+returns-in-End c = λ k. seeks_end c.args.s.now _ _ c.loop-m.m None (c.loop-m.invariant k) _ c.in-End.is

@@ -1,7 +1,6 @@
 -- `number_at` meets its contract: one law for each way out.
-use mathlib.Core.Path.{sym, ap, ◌∙◌}
+use mathlib.Core.Path.{sym, ◌∙◌}
 use Rattle.base.proofs.ByteLaws.{digit, digit_low, digit-high}
-use Rattle.lookup.specs.Leaves.{view_number}
 use Rattle.lookup.proofs.NumberLaws as numbers
 use Rattle.lookup.proofs.number_at.Goals as goal
 
@@ -14,15 +13,15 @@ returns-then-first-lt48 c = numbers.number-not _ _ _ _ c.if-s-at.false (digit_lo
 pub returns-then-first-gt57 : goal.returns-then-first-gt57
 returns-then-first-gt57 c = numbers.number-not _ _ _ _ c.if-s-at.false (digit-high _ c.if-first-gt57.true)
 
-pub returns-in-No : goal.returns-in-No
-returns-in-No c = numbers.number-over _ _ _ _ c.if-s-at.false (digit _ c.if-first-lt48.false c.if-first-gt57.false) (ap view_number (sym c.in-No.is) ∙ c.digits.ensures)
+pub returns-in-None : goal.returns-in-None
+returns-in-None c = numbers.number-over _ _ _ _ c.if-s-at.false (digit _ c.if-first-lt48.false c.if-first-gt57.false) ((sym c.in-None.is) ∙ c.digits.ensures)
 
 pub returns-then-n-lo : goal.returns-then-n-lo
 returns-then-n-lo c =
-    let q = ap view_number (sym c.in-Is.is) ∙ c.digits.ensures in
+    let q = (sym c.in-Some.is) ∙ c.digits.ensures in
     numbers.number-low _ _ _ _ c.if-s-at.false (digit _ c.if-first-lt48.false c.if-first-gt57.false) _ q c.if-n-lo.true
 
-pub returns-in-Is : goal.returns-in-Is
-returns-in-Is c =
-    let q = ap view_number (sym c.in-Is.is) ∙ c.digits.ensures in
+pub returns-in-Some : goal.returns-in-Some
+returns-in-Some c =
+    let q = (sym c.in-Some.is) ∙ c.digits.ensures in
     numbers.number-within _ _ _ _ c.if-s-at.false (digit _ c.if-first-lt48.false c.if-first-gt57.false) _ q c.if-n-lo.false

@@ -13,12 +13,12 @@ loop-next-init c =
     let o = c.bare_end-p.ensures.1 in
     (omega arith, omega arith)
 
-pub returns-in-Close : goal.returns-in-Close
-returns-in-Close c =
+pub returns-in-None : goal.returns-in-None
+returns-in-None c =
     let a = c.args in
     let s = a.s.now in
     let l = c.loop-next in
-    let e = strings.char_close s l.p _ c.char_at.ensures.means c.in-Close.is in
+    let e = strings.char_close s l.p _ c.char_at.ensures.means c.in-None.is in
     let z = ap length e in
     omega arith
 
@@ -27,7 +27,7 @@ overflow_add-n c =
     let a = c.args in
     let s = a.s.now in
     let l = c.loop-next in
-    let x = strings.char_byte s l.p _ c.char_at.ensures.means _ _ c.in-Byte.is in
+    let x = strings.char_byte s l.p _ c.char_at.ensures.means _ _ c.in-Some.is in
     let m = x.1 in
     let n = x.2 in
     omega arith
@@ -37,7 +37,7 @@ loop-next-smaller c =
     let a = c.args in
     let s = a.s.now in
     let l = c.loop-next in
-    let x = strings.char_byte s l.p _ c.char_at.ensures.means _ _ c.in-Byte.is in
+    let x = strings.char_byte s l.p _ c.char_at.ensures.means _ _ c.in-Some.is in
     let m = x.1 in
     let n = x.2 in
     omega arith
@@ -47,7 +47,7 @@ loop-next-preserved c =
     let a = c.args in
     let s = a.s.now in
     let l = c.loop-next in
-    let x = strings.char_byte s l.p _ c.char_at.ensures.means _ _ c.in-Byte.is in
+    let x = strings.char_byte s l.p _ c.char_at.ensures.means _ _ c.in-Some.is in
     let m = x.1 in
     let z = ap length x.0 in
     (omega arith, omega arith)

@@ -10,15 +10,15 @@ returns-then-j-k c =
     let a = c.args in
     let s = a.s.now in
     let l = c.loop-b in
-    let e = strings.char_close s l.p _ c.char_at.ensures.means c.in-Close.is in
+    let e = strings.char_close s l.p _ c.char_at.ensures.means c.in-None.is in
     sym (l.invariant.1 ∙ strings.order_ended (raw (drop l.p s)) a.k.now l.j e (omega (arith, c.if-j-k.true)))
 
-pub returns-in-Close : goal.returns-in-Close
-returns-in-Close c =
+pub returns-in-None : goal.returns-in-None
+returns-in-None c =
     let a = c.args in
     let s = a.s.now in
     let l = c.loop-b in
-    let e = strings.char_close s l.p _ c.char_at.ensures.means c.in-Close.is in
+    let e = strings.char_close s l.p _ c.char_at.ensures.means c.in-None.is in
     sym (l.invariant.1 ∙ strings.order_prefix (raw (drop l.p s)) a.k.now l.j e (omega (arith, l.invariant.0, c.if-j-k.false)))
 
 pub returns-then-k-j : goal.returns-then-k-j
@@ -26,7 +26,7 @@ returns-then-k-j c =
     let a = c.args in
     let s = a.s.now in
     let l = c.loop-b in
-    let x = strings.char_byte s l.p _ c.char_at.ensures.means _ _ c.in-Byte.is in
+    let x = strings.char_byte s l.p _ c.char_at.ensures.means _ _ c.in-Some.is in
     sym (l.invariant.1 ∙ strings.order_longer (raw (drop l.p s)) a.k.now l.j _ _ x.0 c.if-k-j.true)
 
 pub returns-then-b-k : goal.returns-then-b-k
@@ -34,7 +34,7 @@ returns-then-b-k c =
     let a = c.args in
     let s = a.s.now in
     let l = c.loop-b in
-    let x = strings.char_byte s l.p _ c.char_at.ensures.means _ _ c.in-Byte.is in
+    let x = strings.char_byte s l.p _ c.char_at.ensures.means _ _ c.in-Some.is in
     sym (l.invariant.1 ∙ strings.order_below (raw (drop l.p s)) a.k.now l.j _ _ x.0 c.if-k-j.false c.if-b-k.true)
 
 pub returns-then-k-j-2 : goal.returns-then-k-j-2
@@ -42,7 +42,7 @@ returns-then-k-j-2 c =
     let a = c.args in
     let s = a.s.now in
     let l = c.loop-b in
-    let x = strings.char_byte s l.p _ c.char_at.ensures.means _ _ c.in-Byte.is in
+    let x = strings.char_byte s l.p _ c.char_at.ensures.means _ _ c.in-Some.is in
     sym (l.invariant.1 ∙ strings.order_above (raw (drop l.p s)) a.k.now l.j _ _ x.0 c.if-k-j.false c.if-k-j-2.true)
 
 pub loop-b-smaller : goal.loop-b-smaller
@@ -50,7 +50,7 @@ loop-b-smaller c =
     let a = c.args in
     let s = a.s.now in
     let l = c.loop-b in
-    let x = strings.char_byte s l.p _ c.char_at.ensures.means _ _ c.in-Byte.is in
+    let x = strings.char_byte s l.p _ c.char_at.ensures.means _ _ c.in-Some.is in
     let m = x.1 in
     let n = x.2 in
     omega arith
@@ -60,7 +60,7 @@ loop-b-preserved c =
     let a = c.args in
     let s = a.s.now in
     let l = c.loop-b in
-    let x = strings.char_byte s l.p _ c.char_at.ensures.means _ _ c.in-Byte.is in
+    let x = strings.char_byte s l.p _ c.char_at.ensures.means _ _ c.in-Some.is in
     let q = c.if-k-j-2.false in
     let r = c.if-b-k.false in
     (omega arith, l.invariant.1 ∙ strings.order_next (raw (drop l.p s)) a.k.now l.j _ _ x.0 c.if-k-j.false (omega arith))

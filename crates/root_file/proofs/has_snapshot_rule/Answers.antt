@@ -6,12 +6,12 @@ use Rattle.forms.proofs.StepLaws.{must-none, must-at}
 use Rattle.root_file.proofs.BodyLaws.{truth-not, truth-said}
 use Rattle.root_file.proofs.has_snapshot_rule.Goals as goal
 
-pub returns-in-Nothing : goal.returns-in-Nothing
+pub returns-in-None : goal.returns-in-None
 unfolding keep
-returns-in-Nothing c = λ p k w. must-none _ p k w _ _ c.in-Nothing.is refl
+returns-in-None c = λ p k w. must-none _ p k w _ _ c.in-None.is refl
 
-pub returns-in-No : goal.returns-in-No
-returns-in-No c = λ p k w. must-at _ p k w _ _ _ c.in-At.is (truth-not _ _ (ap view_truth (sym c.in-No.is) ∙ c.truth_at.ensures))
+pub returns-in-None : goal.returns-in-None
+returns-in-None c = λ p k w. must-at _ p k w _ _ _ c.in-Some.is (truth-not _ _ ((sym c.in-None.is) ∙ c.truth_at.ensures))
 
-pub returns-in-Is : goal.returns-in-Is
-returns-in-Is c = λ p k w. must-at _ p k w _ _ _ c.in-At.is (truth-said _ _ _ (ap view_truth (sym c.in-Is.is) ∙ c.truth_at.ensures))
+pub returns-in-Some : goal.returns-in-Some
+returns-in-Some c = λ p k w. must-at _ p k w _ _ _ c.in-Some.is (truth-said _ _ _ ((sym c.in-Some.is) ∙ c.truth_at.ensures))

@@ -2,8 +2,8 @@
 use Rattle.root_file.proofs.OwnLaws.{table_none, table_at}
 use Rattle.root_file.proofs.keyids_field.Goals as goal
 
-pub returns-in-Nothing : goal.returns-in-Nothing
-returns-in-Nothing c = λ p k w. table_none _ p k _ w c.in-Nothing.is
+pub returns-in-None : goal.returns-in-None
+returns-in-None c = λ p k w. table_none _ p k _ w c.in-None.is
 
-pub returns-in-At : goal.returns-in-At
-returns-in-At c = λ p k w. table_at _ p k _ w _ _ c.in-At.is c.has_own_keyids.ensures
+pub returns-in-Some : goal.returns-in-Some
+returns-in-Some c = λ p k w. table_at _ p k _ w _ _ c.in-Some.is c.has_own_keyids.ensures

@@ -5,9 +5,9 @@ use Rattle.envelope.proofs.OpenLaws.{cut}
 use Rattle.root_file.specs.View.{view_keys_at}
 use Rattle.root_file.proofs.keys_field.Goals as goal
 
-pub returns-in-Nothing : goal.returns-in-Nothing
+pub returns-in-None : goal.returns-in-None
 unfolding view_keys_at
-returns-in-Nothing c = (λ p k w. must-none _ p k w _ _ c.in-Nothing.is (cut _ _ c.no_keys.ensures.0), end_of-none _ _ _ c.in-Nothing.is)
+returns-in-None c = (λ p k w. must-none _ p k w _ _ c.in-None.is (cut _ _ c.no_keys.ensures.0), end_of-none _ _ _ c.in-None.is)
 
-pub returns-in-At : goal.returns-in-At
-returns-in-At c = (λ p k w. must-at _ p k w _ _ _ c.in-At.is c.keys_at.ensures.0, end_of-found _ _ _ _ c.in-At.is c.keys_at.ensures.1)
+pub returns-in-Some : goal.returns-in-Some
+returns-in-Some c = (λ p k w. must-at _ p k w _ _ _ c.in-Some.is c.keys_at.ensures.0, end_of-found _ _ _ _ c.in-Some.is c.keys_at.ensures.1)

@@ -5,9 +5,9 @@ use Rattle.forms.specs.View.{view_id_at}
 use Rattle.forms.proofs.StepLaws.{must-none, must-at}
 use Rattle.root_file.proofs.public_field.Goals as goal
 
-pub returns-in-Nothing : goal.returns-in-Nothing
+pub returns-in-None : goal.returns-in-None
 unfolding view_id_at keep
-returns-in-Nothing c = λ p k w. must-none _ p k w _ _ c.in-Nothing.is refl
+returns-in-None c = λ p k w. must-none _ p k w _ _ c.in-None.is refl
 
-pub returns-in-At : goal.returns-in-At
-returns-in-At c = λ p k w. must-at _ p k w _ _ _ c.in-At.is (c.id_field.ensures _ _ c.find_member.ensures.means)
+pub returns-in-Some : goal.returns-in-Some
+returns-in-Some c = λ p k w. must-at _ p k w _ _ _ c.in-Some.is (c.id_field.ensures _ _ c.find_member.ensures.means)

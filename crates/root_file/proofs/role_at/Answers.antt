@@ -13,10 +13,10 @@ pub returns-then-not-named : goal.returns-then-not-named
 unfolding view_role_at view_role view_naming_at
 returns-then-not-named c = λ v h. nothing _ c.no_role.ensures (no_naming _ v _ _ (c.naming_field-named.ensures.0 _ _ c.find_member-found.ensures.means v h) (not-true _ c.if-not-named.true))
 
-pub returns-in-No : goal.returns-in-No
+pub returns-in-None : goal.returns-in-None
 unfolding view_role_at view_role view_naming_at
-returns-in-No c = λ v h. nothing _ c.no_role-in-No.ensures (no-threshold _ v _ _ (c.naming_field-named.ensures.0 _ _ c.find_member-found.ensures.means v h) (not-false _ c.if-not-named.false) (ap view_number (sym c.in-No.is) ∙ c.number_field.ensures _ _ (c.find_member_by-second.ensures (c.extent_of.ensures _ c.naming_field-named.ensures.1)).means v h))
+returns-in-None c = λ v h. nothing _ c.no_role-in-None.ensures (no-threshold _ v _ _ (c.naming_field-named.ensures.0 _ _ c.find_member-found.ensures.means v h) (not-false _ c.if-not-named.false) ((sym c.in-None.is) ∙ c.number_field.ensures _ _ (c.find_member_by-second.ensures (c.extent_of.ensures _ c.naming_field-named.ensures.1)).means v h))
 
-pub returns-in-Is : goal.returns-in-Is
+pub returns-in-Some : goal.returns-in-Some
 unfolding view_role_at view_role view_naming_at
-returns-in-Is c = λ v h. held _ _ refl ∙ role-is _ v _ _ (c.naming_field-named.ensures.0 _ _ c.find_member-found.ensures.means v h) (not-false _ c.if-not-named.false) _ (ap view_number (sym c.in-Is.is) ∙ c.number_field.ensures _ _ (c.find_member_by-second.ensures (c.extent_of.ensures _ c.naming_field-named.ensures.1)).means v h)
+returns-in-Some c = λ v h. held _ _ refl ∙ role-is _ v _ _ (c.naming_field-named.ensures.0 _ _ c.find_member-found.ensures.means v h) (not-false _ c.if-not-named.false) _ ((sym c.in-Some.is) ∙ c.number_field.ensures _ _ (c.find_member_by-second.ensures (c.extent_of.ensures _ c.naming_field-named.ensures.1)).means v h)

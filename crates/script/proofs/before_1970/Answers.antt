@@ -2,7 +2,7 @@
 use mathlib.Core.Path.{sym, ap, ◌∙◌}
 use Rattle.script.specs.Numbers.{below, view_moment}
 use Rattle.canonical_json.specs.Fields.{keep}
-use mathlib.Core.Option.{some}
+use Rattle.std.specs.declared.option.Option.TheVariants.{Some}
 use borrow.Author.Tests.{not-true, not-false}
 use Rattle.script.proofs.NumberLaws as numbers
 use Rattle.script.proofs.before_1970.Goals as goal
@@ -14,4 +14,4 @@ pub returns : goal.returns
 unfolding view_moment keep
 returns c =
     let n = c.number_from-read in
-    ap some (numbers.below-back n.result.value c.opposite-seconds.result n.ensures.1 c.opposite-seconds.ensures) ∙ sym (numbers.through-some below n.result _ n.ensures.0 (not-false _ c.if-not-read.false))
+    ap Some (numbers.below-back n.result.value c.opposite-seconds.result n.ensures.1 c.opposite-seconds.ensures) ∙ sym (numbers.through-some below n.result _ n.ensures.0 (not-false _ c.if-not-read.false))

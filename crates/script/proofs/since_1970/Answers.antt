@@ -3,7 +3,7 @@ use mathlib.Core.Path.{sym, ap, ◌∙◌}
 use Rattle.script.specs.Numbers.{view_moment}
 use Rattle.canonical_json.specs.Fields.{keep}
 use lib.IntN.{pos}
-use mathlib.Core.Option.{some}
+use Rattle.std.specs.declared.option.Option.TheVariants.{Some}
 use borrow.Author.Tests.{not-true, not-false}
 use Rattle.script.proofs.NumberLaws as numbers
 use Rattle.script.proofs.since_1970.Goals as goal
@@ -15,4 +15,4 @@ pub returns : goal.returns
 unfolding view_moment keep
 returns c =
     let n = c.number_from-read in
-    ap some (numbers.small_is n.result.value n.ensures.1) ∙ sym (numbers.through-some pos n.result _ n.ensures.0 (not-false _ c.if-not-read.false))
+    ap Some (numbers.small_is n.result.value n.ensures.1) ∙ sym (numbers.through-some pos n.result _ n.ensures.0 (not-false _ c.if-not-read.false))

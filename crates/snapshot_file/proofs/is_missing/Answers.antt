@@ -2,8 +2,8 @@
 use mathlib.Core.Path.{refl}
 use Rattle.snapshot_file.proofs.is_missing.Goals as goal
 
-pub returns-in-Nothing : goal.returns-in-Nothing
-returns-in-Nothing c = rw c.in-Nothing.is refl
+pub returns-in-None : goal.returns-in-None
+returns-in-None c = rw c.in-None.is refl
 
-pub returns-in-At : goal.returns-in-At
-returns-in-At c = rw c.in-At.is refl
+pub returns-in-Some : goal.returns-in-Some
+returns-in-Some c = rw c.in-Some.is refl

@@ -1,5 +1,5 @@
 use mathlib.Core.Path.{refl, sym, ap, ◌∙◌}
-use mathlib.Core.Option.{some}
+use Rattle.std.specs.declared.option.Option.TheVariants.{Some}
 use native.Mathlib.Omega.{arith}
 use borrow.Author.Tests.{not-true, not-false}
 use lib.ListN.{length-set}
@@ -92,7 +92,7 @@ returns-in-End c =
     let f = seeks_end s _ _ l.m l.targets l.invariant.3 _ q in (
       targets-there s _ _ l.targets _ c.is_missing.ensures f.means c.if-is_missing.false
           (λ v h.
-          ap some (front-firsts view_named no_named l.all l.n max_names l.invariant.0)
+          ap Some (front-firsts view_named no_named l.all l.n max_names l.invariant.0)
           ∙ members-over named 1 max_names s l.m l.n (front view_named no_named l.all l.n) _ (l.invariant.4 v h) _ q (omega (arith, c.if-n-lt1.false)) l.invariant.0),
       walks_end s _ l.m l.invariant.2 _ q,
     )

@@ -1,7 +1,7 @@
 -- `with_image` meets its contract: a name is compared where the search is not over.
 use mathlib.Core.Path.{ap, ◌∙◌}
 use mathlib.Core.Bool.{true}
-use mathlib.Core.Option.{some}
+use Rattle.std.specs.declared.option.Option.TheVariants.{Some}
 use Rattle.base.specs.Bytes.{Bytes}
 use Rattle.canonical_json.specs.Fields.{keep}
 use Rattle.lookup.specs.declared.Order.TheVariants.{Smaller, Equal, Greater}
@@ -39,5 +39,5 @@ returns-in-Equal c =
     λ k h.
     let a = c.args in
     let o = c.if-search.false in
-    ap (λ (d : Bytes). record { over = true; compared = a.n; image = some (record { length = a.image.length; digest = d }) }) (unhex-held _ _ c.id_in-undone.result.ok _ c.id_in-undone.ensures h)
+    ap (λ (d : Bytes). record { over = true; compared = a.n; image = Some (record { length = a.image.length; digest = d }) }) (unhex-held _ _ c.id_in-undone.result.ok _ c.id_in-undone.ensures h)
     ∙ compared-now _ _ a.search _ a.i a.image o (k o) _ Equal c.text_order.ensures c.in-Equal.is

@@ -3,8 +3,8 @@ use Rattle.lookup.proofs.StandsLaws.{end_of-none, end_of-found}
 use Rattle.forms.proofs.StepLaws.{must-none, must-at}
 use Rattle.timestamp_file.proofs.meta_listed.Goals as goal
 
-pub returns-in-Nothing : goal.returns-in-Nothing
-returns-in-Nothing c = (λ p k w. must-none _ p k w _ _ c.in-Nothing.is c.no_listed.ensures.0, end_of-none _ _ _ c.in-Nothing.is)
+pub returns-in-None : goal.returns-in-None
+returns-in-None c = (λ p k w. must-none _ p k w _ _ c.in-None.is c.no_listed.ensures.0, end_of-none _ _ _ c.in-None.is)
 
-pub returns-in-At : goal.returns-in-At
-returns-in-At c = (λ p k w. must-at _ p k w _ _ _ c.in-At.is c.sole_listed.ensures.0, end_of-found _ _ _ _ c.in-At.is c.sole_listed.ensures.1)
+pub returns-in-Some : goal.returns-in-Some
+returns-in-Some c = (λ p k w. must-at _ p k w _ _ _ c.in-Some.is c.sole_listed.ensures.0, end_of-found _ _ _ _ c.in-Some.is c.sole_listed.ensures.1)
