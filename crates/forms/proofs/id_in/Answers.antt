@@ -1,20 +1,9 @@
--- `id_in` meets its contract: digits up to a quote are the whole string.
-use mathlib.Core.Path.{refl, sym, ◌∙◌}
-use borrow.Author.Tests.{not-false}
+-- `id_in` meets its contract.
+use mathlib.Core.Path.{sym, ◌∙◌}
 use Rattle.records.specs.View.{view_id}
-use Rattle.forms.specs.View.{view_id_at}
-use Rattle.forms.proofs.TextLaws.{quote-inside, unhex-plain}
-use Rattle.std.proofs.Common.{rules}
+use Rattle.forms.proofs.TextLaws.{unhex-window}
 use Rattle.forms.proofs.id_in.Goals as goal
 
-pub slice_bounds-hex32-end : goal.slice_bounds-hex32-end
-slice_bounds-hex32-end c = let h = quote-inside _ _ _ (sym c.byte_after.ensures ∙ c.if-byte_after-ne34.false) in search rules
-
-pub overflow_add-e : goal.overflow_add-e
-overflow_add-e c = let h = quote-inside _ _ _ (sym c.byte_after.ensures ∙ c.if-byte_after-ne34.false) in search rules
-
 pub returns : goal.returns
-unfolding view_id_at view_id
-returns c =
-    let q = sym c.byte_after.ensures ∙ c.if-byte_after-ne34.false in
-    unhex-plain 32 _ _ _ refl q _ _ _ refl c.hex32-undone.ensures (not-false _ c.if-not-undone.false)
+unfolding view_id
+returns c = unhex-window 32 _ _ (sym c.in_ok-bytes.was ∙ c.hex_in.ensures)
