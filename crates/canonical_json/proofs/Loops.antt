@@ -9,7 +9,7 @@ use borrow.Author.Tests.{eq-eqb, ne_eqb}
 use Rattle.base.specs.Bytes.{Bytes}
 use Rattle.base.proofs.PlaceLaws.{at-cons, at-end}
 use Rattle.canonical_json.specs.Json.{Json, Items, inil, icons, Members, mnil}
-use Rattle.canonical_json.specs.Read.{Got, bad, got, end_of, also, then, front, choose, loop, elements, body, item, same, Member, member, named, mcons', read, array, object}
+use Rattle.canonical_json.specs.Read.{Got, bad, got, end_of, also, then, front, choose, loop, elements, body, item, same, Member, member, named, mcons', read, array}
 use Rattle.std.specs.declared.option.Option.TheVariants.{None, Some}
 use Rattle.canonical_json.proofs.Place.{ends_at, ends-also}
 use Rattle.canonical_json.proofs.Rest.{Fits, Located, located, refused, elements-step, read_fits, member-fits}

@@ -104,7 +104,6 @@ module _ (d : ℕ) (s : Bytes) (i : ℕ) where
   object_begun = loops.begun (objects d) s None i
 
   module _ (p : Option (Bytes)) where
-
     pub object_none : end_of (length s) (member (read d) p (drop i s)) ≡ None → end_of (length s) (elements_of (objects d) p (drop i s)) ≡ None
     object_none = loops.no-element (objects d) s p i
 

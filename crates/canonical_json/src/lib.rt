@@ -142,10 +142,13 @@ pub fn string(s: &[u8], at: usize) -> Option<usize>
     ensures { result ≡ end_of (length s.now) (read_str (drop at s.now)) }
 {
     let mut i = plain_end(s, at);
-    while *s.get(i)? != b'"' {
+    while i < s.len() {
+        if s[i] == b'"' {
+            return Some(i + 1);
+        }
         i = char_end(s, i)?;
     }
-    Some(i + 1)
+    None
 }
 
 // The kinds of value, as the first byte tells them.
