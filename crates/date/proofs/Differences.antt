@@ -2,13 +2,13 @@
 -- integers becomes one of natural numbers, which `omega` proves.
 use Prim.Native.Nat.{ℕ, zero, suc, ◌+◌, ◌-◌, ◌*◌, ◌/◌, ◌≤◌, ◌<◌, ◌^◌}
 use mathlib.Core.Path.{◌≡◌, refl, sym, ◌∙◌, ap}
-use mathlib.Core.Bool.{Bool, true, false}
+use mathlib.Core.Bool.{Bool, true, false, true≢false}
 use native.Mathlib.Omega.{arith}
 use native.Mathlib.Nat.{add-mul, mul-add-div_right, div-le_self, lt_of_le_of_lt}
 use borrow.Author.Tests.{ltb-true, ltb-false, lt-ltb, le-ltb, le-leb}
 use lib.Dec.{ltb}
 use lib.IntN.{ℤ, pos, negsuc, neg_ℤ, sub_ℕ, ◌+ℤ◌, ◌-ℤ◌, ◌*ℤ◌}
-use lib.Signed.{le_z}
+use lib.Signed.{mag, lt_z, le_z}
 use mir.Syntax.{w64}
 use mir.Val.{SFits, to_z, of_z}
 use mir.Facts.{to_z-of_z, to_z_pos}
@@ -91,6 +91,24 @@ sub_le_z x u y l = by (sign x y) (sign u y)
     by (above n h) (below k t) = absurd (omega arith)
     by (below n h) (above k t) = rw (is_neg x y n h, is_pos u y k t)
     by (below n h) (below k t) = rw (is_neg x y n h, is_neg u y k t) (le-leb k n (omega arith))
+
+-- ## A number below zero, and one that is not
+
+below-zero : (n : ℕ) → ltb n 0 ≡ true → ⊥
+below-zero n e = omega (arith, ltb-true n 0 e)
+
+-- below zero, -1 - a is the magnitude
+pub neg_one : (a : ℤ) → lt_z a (pos 0) ≡ true → negsuc 0 -ℤ a ≡ pos (mag a)
+neg_one (pos n) e = absurd (below-zero n e)
+neg_one (negsuc n) e = is_pos (suc n) 1 n (omega arith)
+
+pub from_one : (q : ℕ) → negsuc 0 -ℤ pos q ≡ negsuc q
+from_one zero = refl
+from_one (suc q) = let e : 0 + q ≡ q = omega arith in rw e
+
+pub not_neg : (a : ℤ) → lt_z a (pos 0) ≡ false → a ≡ pos (mag a)
+not_neg (pos n) e = refl
+not_neg (negsuc n) e = absurd (true≢false e)
 
 -- ## Differences in an i64
 
