@@ -42,7 +42,7 @@ use Rattle.envelope.specs.declared.Fault.{Fault}
 use Rattle.envelope.specs.declared.Signed.{Signed}
 use Rattle.envelope.proofs.ReadLaws.{read-says, read-refused}
 use Rattle.targets_file.specs.View.{Listing, found_of, listing, view_found, view_search, listed, Seen, seen, view_seen}
-use Rattle.targets_file.specs.declared.Found as targets
+use Rattle.targets_file.specs.declared.FoundImage.{FoundImage}
 use Rattle.targets_file.specs.declared.TargetsSeen.{TargetsSeen}
 use Rattle.targets_file.specs.declared.Search.{Search}
 use Rattle.tuf.specs.View.{view, view_image}
@@ -109,7 +109,7 @@ module _ (path : Bytes) (is : List Image) (search : Search) (e : listing path is
   unfolding found_of bind
   image-listed = go (image_of path is) search.found image-read
     where
-      go : (o : Option Image) (f : Option targets.Found) → found_of o ≡ option_map view_found f → is_some f ≡ not (absent o)
+      go : (o : Option Image) (f : Option FoundImage) → found_of o ≡ option_map view_found f → is_some f ≡ not (absent o)
       go None None e = refl
       go None (Some x) e = none-not-some e
       go (Some i) None e = none-not-some (sym e)
