@@ -12,21 +12,19 @@ use lib.ListN.{drop}
 use borrow.Author.Tests.{le-leb}
 use Rattle.base.specs.Bytes.{Bytes, bytes}
 use Rattle.base.specs.Hex.{undo}
-use Rattle.base.proofs.TestLaws.{never}
 use Rattle.canonical_json.specs.Json.{Json, Items, inil, icons}
 use Rattle.canonical_json.specs.Read.{raw}
 use Rattle.canonical_json.specs.Fields.{items, size, keep}
-use Rattle.lookup.specs.Place.{Stands}
-use Rattle.lookup.proofs.StandsLaws.{known-none}
+use Rattle.lookup.specs.Place.{Takes, Reads}
 use Rattle.rules.specs.Limits.{max_entries, key_size, signature_size}
 use Rattle.rules.specs.Take.{◌>>=◌, must, hex, each}
 use Rattle.rules.specs.Records.{Entry}
 use Rattle.rules.specs.Forms.{entry, entries}
 use Rattle.rules.specs.Reading.{keyids_of}
+use Rattle.records.specs.View.{view_entries}
 use Rattle.forms.specs.Each.{each_item}
-use Rattle.envelope.specs.Header.{keyid_of, keyids, view_entry, ReadsEntry}
+use Rattle.envelope.specs.Header.{keyid_of, keyids, entry_in, ReadsEntry}
 use Rattle.envelope.specs.declared.EntryAt.{EntryAt}
-use Rattle.envelope.proofs.OpenLaws.{cut, held}
 
 -- ## One entry
 
@@ -44,28 +42,20 @@ module _ (v : Json) where
     unfolding entry bind
     entry-is sig f = rw (← e, ← f)
 
--- the form is broken
-pub broken-entry : (s : Bytes) (p : ℕ) (r : EntryAt) → r.ok ≡ false → r.end ≡ None → ((v : Json) → Stands s p v → None ≡ entry v) → ReadsEntry s p r
-unfolding view_entry
-broken-entry s p r o e f = record {
-  means = λ v h. cut _ _ o ∙ f v h;
-  keyid = λ q. never (sym q ∙ o);
-  sig = λ q. never (sym q ∙ o);
-  end = known-none s p _ e;
-}
+-- no entry, where the form is broken
+pub broken-entry : (s : Bytes) (p : ℕ) → Takes s p entry None → ReadsEntry s p None
+broken-entry s p t = record { reads = record { means = t; end = tt }; digits = tt }
 
 -- ## Its keyid
 
-module _ (s : Bytes) (r : EntryAt) (v : Json) (e : view_entry s r ≡ entry v) where
-  pub keyid-broken : r.ok ≡ false → None ≡ keyid_of v
-  unfolding keyid_of view_entry bind
-  keyid-broken q = let k : None ≡ entry v = sym (cut _ _ q) ∙ e in rw (← k)
+module _ (s : Bytes) (v : Json) where
+  pub keyid-broken : None ≡ entry v → None ≡ keyid_of v
+  unfolding keyid_of bind
+  keyid-broken e = rw (← e)
 
-  pub keyid-is : r.ok ≡ true → (k : Bytes) → k ≡ undo (raw (drop r.keyid s)) → Some k ≡ keyid_of v
-  unfolding keyid_of view_entry bind
-  keyid-is q k z =
-      let t : Some (record { keyid = undo (raw (drop r.keyid s)); sig = undo (raw (drop r.sig s)) }) ≡ entry v = sym (held _ _ q) ∙ e in
-      rw (← t) (ap Some z)
+  pub keyid-is : (r : EntryAt) → Some (entry_in s r) ≡ entry v → Some (undo (raw (drop r.keyid s))) ≡ keyid_of v
+  unfolding keyid_of entry_in bind
+  keyid-is r e = rw (← e)
 
 -- ## All of them
 
@@ -92,3 +82,7 @@ keyids-each v = go (items v)
         ≡ (o >>= λ xs. keep (leb 0 (size xs) && leb (size xs) max_entries) xs >>= each keyid_of)
     go None = refl
     go (Some xs) = rw (le-leb 0 (size xs) (omega arith)) (kept (leb (size xs) max_entries) xs)
+
+-- no entries, where the form is broken
+pub broken-entries : (s : Bytes) (p : ℕ) → Takes s p (each_item 0 max_entries keyid_of) None → Reads view_entries s p keyids None
+broken-entries s p t = record { means = λ v h. t v h ∙ sym (keyids-each v); end = tt }

@@ -55,24 +55,24 @@ module _ (type : Bytes) (v : Json) (typed : Bool) (e : keep typed tt ≡ must (b
   unfolding header bind keep
   no_type q = rw (← e, q)
 
-  module _ (q : typed ≡ true) (ok known : Bool) (f : keep ok known ≡ must (bytes "spec_version") spec_known v) where
-    pub no-spec : ok ≡ false → None ≡ header type v
+  module _ (q : typed ≡ true) where
+    pub no-spec : None ≡ must (bytes "spec_version") spec_known v → None ≡ header type v
     unfolding header bind keep
-    no-spec p = rw (← e, q, ← f, p)
+    no-spec f = rw (← e, q, ← f)
 
-    module _ (p : ok ≡ true) where
+    module _ (known : Bool) (f : Some known ≡ must (bytes "spec_version") spec_known v) where
       pub no-version : None ≡ version v → None ≡ header type v
       unfolding header bind keep
-      no-version g = rw (← e, q, ← f, p, ← g)
+      no-version g = rw (← e, q, ← f, ← g)
 
       module _ (n : ℕ) (g : Some n ≡ version v) where
         pub no_date : None ≡ must (bytes "expires") date v → None ≡ header type v
         unfolding header bind keep
-        no_date h = rw (← e, q, ← f, p, ← g, ← h)
+        no_date h = rw (← e, q, ← f, ← g, ← h)
 
-        pub header_is : (t : ℤ) → Some t ≡ must (bytes "expires") date v → keep true (record { known = known; version = n; expires = t }) ≡ header type v
+        pub header_is : (t : ℤ) → Some t ≡ must (bytes "expires") date v → Some (record { known = known; version = n; expires = t }) ≡ header type v
         unfolding header bind keep
-        header_is t h = rw (← e, q, ← f, p, ← g, ← h)
+        header_is t h = rw (← e, q, ← f, ← g, ← h)
 
 -- ## A role's file: what the header leaves to the body, and the spec_version that is told as known or not
 

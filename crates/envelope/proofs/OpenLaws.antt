@@ -1,40 +1,39 @@
 -- Opening a file, step by step: refusals 1 to 3, the signed part and the keyids.
-use mathlib.Core.Path.{◌≡◌, refl, sym, ◌∙◌}
+use mathlib.Core.Path.{◌≡◌, refl, sym, ap, ◌∙◌}
 use Rattle.std.specs.declared.option.Option.{Option}
 use Rattle.std.specs.declared.option.Option.TheVariants.{None, Some}
 use Rattle.canonical_json.specs.Options.{bind}
 use mathlib.Core.List.{List, []}
-use mathlib.Core.Bool.{Bool, true, false}
 use Prim.Native.Nat.{ℕ, ◌<◌, ◌≤◌}
 use lib.ListN.{length}
 use borrow.Author.Tests.{le-leb, lt-leb}
+use Rattle.std.specs.declared.result.Result.{Result}
+use Rattle.std.specs.declared.result.Result.TheVariants.{Ok, Err}
+use Rattle.std.specs.Option.{ok_or}
 use Rattle.base.specs.Bytes.{Bytes, bytes}
 use Rattle.canonical_json.specs.Json.{Json, Members, put, Canonical, max_depth}
-use Rattle.canonical_json.specs.Fields.{members, lookup, field, keep, place_of}
-use Rattle.lookup.specs.Place.{Stands, PlaceOf, Takes, view_found, FindsMember}
+use Rattle.canonical_json.specs.Fields.{members, lookup, field, place_of}
+use Rattle.lookup.specs.Place.{Stands, PlaceOf, Takes, FindsMember}
 use Rattle.rules.specs.Limits.{max_file}
 use Rattle.rules.specs.Take.{◌>>=◌, must}
-use Rattle.rules.specs.Records.{Entry}
+use Rattle.base.proofs.TestLaws.{never}
+use Rattle.rules.specs.Records.{Entry, Read, refused, says}
 use Rattle.rules.specs.Forms.{Envelope, entries, envelope}
 use Rattle.rules.specs.Reading.{parsed, judged_text, read_with, keyids_of, opened, read_envelope}
-use Rattle.rules.specs.Steps.{fault_number}
 use Rattle.rules.proofs.OptionLaws.{none-not-some, some_is}
 use Rattle.rules.proofs.ReadingLaws.{parsed-exactly}
 use Rattle.records.specs.View.{view_entries}
 use Rattle.forms.proofs.StepLaws.{stop}
 use Rattle.envelope.specs.Header.{keyids}
-use Rattle.envelope.specs.Open.{object, IsShut, Opens}
+use Rattle.envelope.specs.Open.{object, IsOpen, EnvelopeOf, Unfolds, view_fault, Opens}
+use Rattle.envelope.specs.declared.Fault.{Fault}
+use Rattle.envelope.specs.declared.Fault.TheVariants.{TooLong, NotText, BadForm}
 use Rattle.envelope.specs.declared.Opened.{Opened}
 
 -- ## The envelope's steps
 
-pub cut : {A : Type 0} (b : Bool) (a : A) → b ≡ false → keep b a ≡ None
-unfolding keep
-cut b a e = rw e
-
-pub held : {A : Type 0} (b : Bool) (a : A) → b ≡ true → keep b a ≡ Some a
-unfolding keep
-held b a e = rw e
+moved : {s : Bytes} {v : Json} {x y : ℕ} → x ≡ y → Stands s y v → Stands s x v
+moved e h = rw e h
 
 abbrev enveloped : List Entry → Json → ℕ → Envelope
 enveloped es w x = record { entries = es; signed = w; start = x; length = length (put w []) }
@@ -53,19 +52,19 @@ module _ (v : Json) where
   lost None e = refl
   lost (Some es) e = none-not-some e
 
-  module _ (ok : Bool) (ks : List Bytes) (e : keep ok ks ≡ must (bytes "signatures") keyids v) where
-    pub no-keyids : ok ≡ false → None ≡ envelope v
-    unfolding envelope
-    no-keyids q = sym (stop _ (lost (must (bytes "signatures") entries v) (sym (cut ok ks q) ∙ e ∙ must-keyids (bytes "signatures"))))
+  pub no-keyids : None ≡ must (bytes "signatures") keyids v → None ≡ envelope v
+  unfolding envelope
+  no-keyids e = sym (stop _ (lost (must (bytes "signatures") entries v) (e ∙ must-keyids (bytes "signatures"))))
 
-    entries-there : ok ≡ true → (es : List Entry) × (must (bytes "signatures") entries v ≡ Some es) × (ks ≡ keyids_of es)
-    unfolding bind keep
-    entries-there q = go (must (bytes "signatures") entries v) refl (rw q at (e ∙ must-keyids (bytes "signatures")))
-      where
-        go : (o : Option (List Entry)) → must (bytes "signatures") entries v ≡ o → Some ks ≡ (o >>= λ es. Some (keyids_of es))
-            → (es : List Entry) × (must (bytes "signatures") entries v ≡ Some es) × (ks ≡ keyids_of es)
-        go None p e = none-not-some (sym e)
-        go (Some es) p e = (es, p, some_is e)
+  entries-there : (ks : List Bytes) → Some ks ≡ must (bytes "signatures") keyids v
+      → (es : List Entry) × (must (bytes "signatures") entries v ≡ Some es) × (ks ≡ keyids_of es)
+  unfolding bind
+  entries-there ks e = go (must (bytes "signatures") entries v) refl (e ∙ must-keyids (bytes "signatures"))
+    where
+      go : (o : Option (List Entry)) → must (bytes "signatures") entries v ≡ o → Some ks ≡ (o >>= λ es. Some (keyids_of es))
+          → (es : List Entry) × (must (bytes "signatures") entries v ≡ Some es) × (ks ≡ keyids_of es)
+      go None p e = none-not-some (sym e)
+      go (Some es) p e = (es, p, some_is e)
 
   pub no_signed : field (bytes "signed") v ≡ None → None ≡ envelope v
   unfolding envelope field bind
@@ -105,6 +104,35 @@ module _ (v : Json) where
     unfolding bind
     signed-object n es m = rw (signed-there, m, ← n) refl
 
+-- ## The envelope of a file
+
+module _ (file : Bytes) where
+  -- nothing, where the form is broken
+  broken : Takes file 0 envelope None → Unfolds file None
+  broken t v h = rw (← t v h) refl
+
+  pub opens_unsigned : Takes file 0 (must (bytes "signatures") keyids) None → Unfolds file None
+  opens_unsigned t = broken (λ v h. no-keyids v (t v h))
+
+  pub opens-nothing : FindsMember file 0 (bytes "signed") None → Unfolds file None
+  opens-nothing w = broken (λ v h. no_signed v (w.means v h))
+
+  module _ (start : ℕ) (w : FindsMember file 0 (bytes "signed") (Some start)) where
+    place : (v : Json) → Stands file 0 v → Some start ≡ (members v >>= place_of (bytes "signed"))
+    unfolding place_of
+    place v h = w.place v h
+
+    pub opens_scalar : Takes file start object None → Unfolds file None
+    opens_scalar o = broken (λ v h. let signed = w.means v h in signed-other v signed.0 start signed.1 (place v h) (o signed.0 signed.2))
+
+    pub opens-all : Takes file start object (Some tt) → (r : Opened) → r.start ≡ start → Takes file 0 (must (bytes "signatures") keyids) (Some (view_entries r.entries))
+        → Unfolds file (Some r)
+    opens-all o r a t v h =
+        let signed = w.means v h in
+        let es = entries-there v (view_entries r.entries) (t v h) in
+        rw (← signed-object v signed.0 start signed.1 (place v h) (o signed.0 signed.2) es.0 es.1)
+        (r, refl, record { start = a; size = refl; keyids = es.2; stands = moved a signed.2 })
+
 -- ## The file
 
 unparsed : (file : Bytes) → (Canonical max_depth file → ⊥) → parsed file ≡ None
@@ -114,18 +142,15 @@ unparsed file n = go (parsed file) refl
     go None e = e
     go (Some v) e = let w = (parsed-exactly file v).0 e in absurd (n (v, w.0, w.1))
 
-moved : {s : Bytes} {v : Json} {x y : ℕ} → x ≡ y → Stands s y v → Stands s x v
-moved e h = rw e h
-
-module _ (file : Bytes) (r : Opened) where
-  pub opens-long : max_file < length file → IsShut r 1 → Opens file r (read_envelope file)
-  unfolding read_envelope read_with fault_number
-  opens-long h x = rw (lt-leb (length file) max_file h) x
+module _ (file : Bytes) where
+  pub opens-long : max_file < length file → Opens file (Err TooLong) (read_envelope file)
+  unfolding read_envelope read_with
+  opens-long h = rw (lt-leb (length file) max_file h) (TooLong, refl, refl)
 
   module _ (fits : length file ≤ max_file) where
-    pub opens-other : (Canonical max_depth file → ⊥) → IsShut r 2 → Opens file r (read_envelope file)
-    unfolding read_envelope read_with judged_text fault_number
-    opens-other n x = rw (le-leb (length file) max_file fits, unparsed file n) x
+    pub opens-other : (Canonical max_depth file → ⊥) → Opens file (Err NotText) (read_envelope file)
+    unfolding read_envelope read_with judged_text
+    opens-other n = rw (le-leb (length file) max_file fits, unparsed file n) (NotText, refl, refl)
 
     module _ (c : Canonical max_depth file) where
       reads : read_envelope file ≡ opened (envelope c.0)
@@ -135,34 +160,39 @@ module _ (file : Bytes) (r : Opened) where
       here : Stands file 0 c.0
       here = record { rest = []; text = c.2; free = tt; valid = c.1 }
 
-      broken : None ≡ envelope c.0 → IsShut r 3 → Opens file r (read_envelope file)
-      unfolding opened fault_number
-      broken e x = rw (reads, ← e) x
+      -- the envelope's answer, or the refusal
+      pub opens-form : (o : Option Opened) → Unfolds file o → Opens file (ok_or o BadForm) (read_envelope file)
+      unfolding opened
+      opens-form o w = rw reads (go o (envelope c.0) (w c.0 here))
+        where
+          go : (o : Option Opened) (e : Option Envelope) → EnvelopeOf file o e → Opens file (ok_or o BadForm) (opened e)
+          go o None q = rw q (BadForm, refl, refl)
+          go o (Some e) q = rw q.1 (q.0, refl, q.2)
 
-      module _ (ok : Bool) (ks : List Bytes) (t : Takes file 0 (must (bytes "signatures") keyids) (keep ok ks)) where
-        pub opens_unsigned : ok ≡ false → IsShut r 3 → Opens file r (read_envelope file)
-        opens_unsigned q x = broken (no-keyids c.0 ok ks (t c.0 here) q) x
+-- ## What the result says
 
-        module _ (f : Option ℕ) (w : FindsMember file 0 (bytes "signed") f) where
-          pub opens-nothing : f ≡ None → IsShut r 3 → Opens file r (read_envelope file)
-          opens-nothing q x = broken (no_signed c.0 (rw q at (w.means c.0 here))) x
+fault_is : {f g : Fault} → Path (Result Opened Fault) (Err f) (Err g) → f ≡ g
+fault_is e = cc
 
-          module _ (start : ℕ) (q : f ≡ Some start) where
-            signed : PlaceOf file (Some start) (field (bytes "signed") c.0)
-            signed = rw q at (w.means c.0 here)
+opened_is : {o p : Opened} → Path (Result Opened Fault) (Ok o) (Ok p) → o ≡ p
+opened_is e = cc
 
-            place : Some start ≡ (members c.0 >>= place_of (bytes "signed"))
-            unfolding view_found place_of
-            place = rw q at (w.place c.0 here)
+ok-not-err : {X : Type 0} {o : Opened} {f : Fault} → Path (Result Opened Fault) (Ok o) (Err f) → X
+ok-not-err e = never (cc)
 
-            module _ (is : Bool) (o : Takes file start object (keep is tt)) where
-              pub opens_scalar : is ≡ false → IsShut r 3 → Opens file r (read_envelope file)
-              unfolding keep
-              opens_scalar p x = broken (signed-other c.0 signed.0 start signed.1 place (rw p at (o signed.0 signed.2))) x
+module _ (file : Bytes) where
+  -- the file is refused
+  pub opened-refused : (f : Fault) → Opens file (Err f) (read_envelope file) → read_envelope file ≡ refused (view_fault f)
+  opened-refused f w = go (read_envelope file) w
+    where
+      go : (x : Read Envelope) → Opens file (Err f) x → x ≡ refused (view_fault f)
+      go (refused g) q = rw (← q.2) (ap (λ (y : Fault). refused (view_fault y)) (sym (fault_is q.1)))
+      go (says e ks) q = ok-not-err (sym q.1)
 
-              pub opens-all : ok ≡ true → is ≡ true → r.answer ≡ 0 → r.start ≡ start → view_entries r.entries ≡ ks → Opens file r (read_envelope file)
-              unfolding opened keep
-              opens-all y z a b k =
-                  let es = entries-there c.0 ok ks (t c.0 here) y in
-                  rw (reads, ← signed-object c.0 signed.0 start signed.1 place (rw z at (o signed.0 signed.2)) es.0 es.1)
-                  (record { answer = a; start = b; size = refl; keyids = k ∙ es.2; stands = moved b signed.2 })
+  -- the envelope that was opened
+  pub opened-says : (o : Opened) → Opens file (Ok o) (read_envelope file) → (e : Envelope) × (ks : List Bytes) × (read_envelope file ≡ says e ks) × IsOpen file o e
+  opened-says o w = go (read_envelope file) w
+    where
+      go : (x : Read Envelope) → Opens file (Ok o) x → (e : Envelope) × (ks : List Bytes) × (x ≡ says e ks) × IsOpen file o e
+      go (refused f) q = ok-not-err q.1
+      go (says e ks) q = (e, ks, refl, rw (opened_is q.1) q.2)

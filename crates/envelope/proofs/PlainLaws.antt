@@ -15,13 +15,13 @@ use Rattle.canonical_json.specs.Fields.{field, members, lookup, text, keep}
 use Rattle.canonical_json.proofs.Rfc.{to_rfc}
 use Rattle.canonical_json.proofs.Complete.{complete-object}
 use Rattle.std.specs.declared.option.Option.TheVariants.{None, Some}
-use Rattle.lookup.proofs.StandsLaws.{known_as, takes_of, ends_of}
+use Rattle.lookup.proofs.StandsLaws.{takes_of, ends_of}
 use Rattle.rules.specs.Limits.{key_size, signature_size}
 use Rattle.rules.specs.Take.{must, hex, unhex}
 use Rattle.rules.specs.Forms.{entry}
 use Rattle.forms.specs.View.{digits_at}
 use Rattle.forms.proofs.TextLaws.{put-hex, hex-valid, digits-hex, digits-text, digits-raw, digits-is}
-use Rattle.envelope.specs.Header.{view_entry, ReadsEntry}
+use Rattle.envelope.specs.Header.{entry_in, ReadsEntry}
 use Rattle.envelope.specs.Plain.{plain_entry, opening, between, closing}
 use Rattle.envelope.specs.declared.EntryAt.{EntryAt}
 
@@ -64,17 +64,20 @@ module _ (s : Bytes) (p e : ℕ) (r : EntryAt)
       ∙ sym (plain-text id_text sig_text (drop e s) h k) in
       ap (read max_depth) t ∙ complete-object _ max_depth (drop e s) (plain-valid id_text sig_text (drop e s) h k)
 
-  pub plain-reads : r.ok ≡ true → r.end ≡ Some e → p < e → e ≤ length s → ReadsEntry s p r
-  unfolding view_entry keep id_text sig_text
-  plain-reads ok end lo hi = record {
-    means =
-        rw ok
-        (takes_of s p _ _ plain-read entry _
-        (ap (λ (x : Bytes). Some (record { keyid = undo x; sig = undo (raw (drop r.sig s)) })) (digits-raw key_size s r.keyid keyid)
-        ∙ ap (λ (x : Bytes). Some (record { keyid = undo id_text; sig = undo x })) (digits-raw signature_size s r.sig sig)
-        ∙ plain-says id_text sig_text (ap (is_hex key_size) (sym (digits-raw key_size s r.keyid keyid)) ∙ digits-is key_size s r.keyid keyid)
-        (ap (is_hex signature_size) (sym (digits-raw signature_size s r.sig sig)) ∙ digits-is signature_size s r.sig sig)));
-    keyid = λ _. digits-is key_size s r.keyid keyid;
-    sig = λ _. digits-is signature_size s r.sig sig;
-    end = known_as s p _ _ end (ends_of s p _ _ plain-read e refl lo hi);
-  }
+  pub plain-reads : p < e → e ≤ length s → ReadsEntry s p (Some (record { value = r; end = Some e }))
+  unfolding entry_in id_text sig_text
+  plain-reads lo hi =
+      let k = digits-is key_size s r.keyid keyid in
+      let g = digits-is signature_size s r.sig sig in
+      record {
+        reads = record {
+          means =
+              takes_of s p _ _ plain-read entry _
+              (ap (λ (x : Bytes). Some (record { keyid = undo x; sig = undo (raw (drop r.sig s)) })) (digits-raw key_size s r.keyid keyid)
+              ∙ ap (λ (x : Bytes). Some (record { keyid = undo id_text; sig = undo x })) (digits-raw signature_size s r.sig sig)
+              ∙ plain-says id_text sig_text (ap (is_hex key_size) (sym (digits-raw key_size s r.keyid keyid)) ∙ k)
+              (ap (is_hex signature_size) (sym (digits-raw signature_size s r.sig sig)) ∙ g));
+          end = ends_of s p _ _ plain-read e refl lo hi;
+        };
+        digits = record { keyid = k; sig = g };
+      }

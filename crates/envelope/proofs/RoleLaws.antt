@@ -11,34 +11,25 @@ use Prim.Native.Nat.{ℕ}
 use lib.Dec.{leb}
 use lib.IntN.{ℤ}
 use lib.ListN.{length}
-use borrow.Author.Tests.{ne_eqb}
+use Rattle.std.specs.declared.result.Result.{Result}
+use Rattle.std.specs.declared.result.Result.TheVariants.{Ok, Err}
 use Rattle.base.specs.Bytes.{Bytes}
 use Rattle.canonical_json.specs.Json.{Json}
-use Rattle.canonical_json.specs.Fields.{keep}
 use Rattle.lookup.specs.Place.{Takes, Tests}
 use Rattle.rules.specs.Limits.{max_file}
-use Rattle.rules.specs.Records.{File, Fault, too_long, not_text, bad_form, other_keyid, other_spec, Read, refused, says}
+use Rattle.rules.specs.Records.{File, too_long, not_text, bad_form, other_keyid, other_spec, Read, refused, says}
 use Rattle.rules.specs.Forms.{Envelope, envelope, known_spec, file_of}
 use Rattle.rules.specs.Reading.{parsed, judged_text, read_with, keyids_of, opened, read_envelope, known, spoken, in_envelope, read_as}
 use Rattle.rules.specs.State.{kept}
-use Rattle.rules.specs.Steps.{fault_number}
-use Rattle.rules.proofs.TableLaws.{fault-refuses}
 use Rattle.records.specs.View.{view_entries}
 use Rattle.envelope.specs.Header.{Header, header}
-use Rattle.envelope.specs.Open.{IsOpen, Opens, fault, view_read}
+use Rattle.envelope.specs.Open.{IsOpen, Opens, view_fault, view_read}
+use Rattle.envelope.specs.declared.Fault.{Fault}
+use Rattle.envelope.specs.declared.Fault.TheVariants.{BadForm, OtherKeyid, OtherSpec}
+use Rattle.envelope.specs.declared.Signed.{Signed}
 use Rattle.envelope.specs.declared.Opened.{Opened}
-use Rattle.envelope.proofs.OpenLaws.{cut, held}
+use Rattle.envelope.proofs.OpenLaws.{opened-refused, opened-says}
 use Rattle.envelope.proofs.HeaderLaws.{file, no-file, no_body, file-by}
-
--- ## Numbers of refusals
-
-fault-number : (f : Fault) → fault (fault_number f) ≡ Some f
-unfolding fault fault_number
-fault-number too_long = refl
-fault-number not_text = refl
-fault-number bad_form = refl
-fault-number other_keyid = refl
-fault-number other_spec = refl
 
 -- ## From the envelope, the header and a body to what the file says
 
@@ -74,37 +65,28 @@ module _ {A : Type 0} (type : Bytes) (body : Json → Option A) (keyids : Json �
       go true None = refl
       go true (Some v) = inner (envelope v)
 
-  module _ (bytes : Bytes) (o : Opened) (w : Opens bytes o (read_envelope bytes)) where
-    -- the file is refused, and o says which refusal it is
-    refused_as : (o.answer ≡ 0 → ⊥) → (f : Fault) × (o.answer ≡ fault_number f) × (read_as type body keyids bytes ≡ refused f)
+  module _ (bytes : Bytes) where
+    -- the file is refused
+    pub refused_as : (f : Fault) → Opens bytes (Err f) (read_envelope bytes) → read_as type body keyids bytes ≡ refused (view_fault f)
     unfolding after
-    refused_as n = go (read_envelope bytes) w (by-envelope bytes)
-      where
-        go : (e : Read Envelope) → Opens bytes o e → read_as type body keyids bytes ≡ after e → (f : Fault) × (o.answer ≡ fault_number f) × (read_as type body keyids bytes ≡ refused f)
-        go (refused f) w i = (f, w.answer, i)
-        go (says e ks) w i = absurd (n w.answer)
+    refused_as f w = by-envelope bytes ∙ rw (opened-refused bytes f w) refl
 
-    -- the envelope that was opened
-    open_as : o.answer ≡ 0 → (e : Envelope) × IsOpen bytes o e × (read_as type body keyids bytes ≡ spoken e (keyids e.signed) (file_of type body e.signed))
-    unfolding after
-    open_as z = go (read_envelope bytes) w (by-envelope bytes)
-      where
-        go : (e : Read Envelope) → Opens bytes o e → read_as type body keyids bytes ≡ after e
-            → (e : Envelope) × IsOpen bytes o e × (read_as type body keyids bytes ≡ spoken e (keyids e.signed) (file_of type body e.signed))
-        go (refused f) w i = absurd (fault-refuses f (sym w.answer ∙ z))
-        go (says e ks) w i = (e, w, i)
+    module _ (o : Opened) (w : Opens bytes (Ok o) (read_envelope bytes)) where
+      -- the envelope that was opened
+      pub open_as : (e : Envelope) × IsOpen bytes o e × (read_as type body keyids bytes ≡ spoken e (keyids e.signed) (file_of type body e.signed))
+      unfolding after
+      open_as = let s = opened-says bytes o w in (s.0, s.3, by-envelope bytes ∙ rw s.2 refl)
 
-    module _ (z : o.answer ≡ 0) where
       lacks-header : Takes bytes o.start (header type) None → read_as type body keyids bytes ≡ refused bad_form
       unfolding spoken
       lacks-header t =
-          let d = open_as z in
+          let d = open_as in
           d.2 ∙ rw (← no-file type body d.0.signed (t d.0.signed d.1.stands)) refl
 
       lacks-body : Takes bytes o.start body None → read_as type body keyids bytes ≡ refused bad_form
       unfolding spoken
       lacks-body t =
-          let d = open_as z in
+          let d = open_as in
           d.2 ∙ rw (← no_body type body d.0.signed (t d.0.signed d.1.stands)) refl
 
       module _ (h : Header) (t : Takes bytes o.start (header type) (Some h)) (b : A) (u : Takes bytes o.start body (Some b)) where
@@ -112,7 +94,7 @@ module _ {A : Type 0} (type : Bytes) (body : Json → Option A) (keyids : Json �
           has-file : (e : Envelope) × IsOpen bytes o e × ((spec : Bytes) × (known_spec spec ≡ h.known) × (read_as type body keyids bytes ≡ spoken e own (Some (file spec h.version h.expires b))))
           unfolding bind
           has-file =
-              let d = open_as z in
+              let d = open_as in
               let v = d.0.signed in
               let f = file-by type body v h (t v d.1.stands) in
               let k : file_of type body v ≡ Some (file f.0 h.version h.expires b) = f.2 ∙ rw (← u v d.1.stands) refl in
@@ -130,52 +112,39 @@ module _ {A : Type 0} (type : Bytes) (body : Json → Option A) (keyids : Json �
 
 -- ## The ways out of a function that reads a role's file, of which `keep_it` is kept
 
-module _ {A B : Type 0} (type : Bytes) (body : Json → Option A) (keyids : Json → Bool) (keep_it : File A → B) (bytes : Bytes) (o : Opened) (w : Opens bytes o (read_envelope bytes)) (n : ℕ) (b : B) (es : List Bytes) where
-  said-refused : (f : Fault) → read_as type body keyids bytes ≡ refused f → n ≡ fault_number f
-      → view_read n b es ≡ Some (kept keep_it (read_as type body keyids bytes))
-  unfolding view_read kept bind
-  said-refused f s e = rw (s, e, ne_eqb (fault_number f) 0 (fault-refuses f), fault-number f)
+module _ {A B T : Type 0} (type : Bytes) (body : Json → Option A) (keyids : Json → Bool) (keep_it : File A → B) (view : T → B) (bytes : Bytes) where
+  said-refused : (f : Fault) → read_as type body keyids bytes ≡ refused (view_fault f) → view_read view (Err f) ≡ kept keep_it (read_as type body keyids bytes)
+  unfolding view_read kept
+  said-refused f s = rw s refl
 
-  pub role-refused : (o.answer ≡ 0 → ⊥) → n ≡ o.answer → view_read n b es ≡ Some (kept keep_it (read_as type body keyids bytes))
-  role-refused x e = let d = refused_as type body keyids bytes o w x in said-refused d.0 d.2 (e ∙ d.1)
+  -- at opening
+  pub role-refused : (f : Fault) → Opens bytes (Err f) (read_envelope bytes) → view_read view (Err f) ≡ kept keep_it (read_as type body keyids bytes)
+  role-refused f w = said-refused f (refused_as type body keyids bytes f w)
 
-  module _ (z : o.answer ≡ 0) (ok : Bool) (a : A) (t : Takes bytes o.start body (keep ok a)) where
-    pub role-broken : ok ≡ false → n ≡ 3 → view_read n b es ≡ Some (kept keep_it (read_as type body keyids bytes))
-    unfolding fault_number
-    role-broken q e = said-refused bad_form (lacks-body type body keyids bytes o w z (λ v h. sym (cut ok a q) ∙ t v h)) e
+  module _ (o : Opened) (w : Opens bytes (Ok o) (read_envelope bytes)) where
+    -- a broken body
+    pub role-broken : Takes bytes o.start body None → view_read view (Err BadForm) ≡ kept keep_it (read_as type body keyids bytes)
+    role-broken t = said-refused BadForm (lacks-body type body keyids bytes o w t)
 
-    module _ (head : Bool) (h : Header) (u : Takes bytes o.start (header type) (keep head h)) where
-      pub role_headless : head ≡ false → n ≡ 3 → view_read n b es ≡ Some (kept keep_it (read_as type body keyids bytes))
-      unfolding fault_number
-      role_headless q e = said-refused bad_form (lacks-header type body keyids bytes o w z (λ v x. sym (cut head h q) ∙ u v x)) e
+    -- a broken header
+    pub role_headless : Takes bytes o.start (header type) None → view_read view (Err BadForm) ≡ kept keep_it (read_as type body keyids bytes)
+    role_headless t = said-refused BadForm (lacks-header type body keyids bytes o w t)
 
-      module _ (p : ok ≡ true) (q : head ≡ true) where
-        header-there : Takes bytes o.start (header type) (Some h)
-        header-there v x = sym (held head h q) ∙ u v x
+    module _ (a : A) (t : Takes bytes o.start body (Some a)) (h : Header) (u : Takes bytes o.start (header type) (Some h)) where
+      -- a keyid of the key table that is not its key's
+      pub role-keyids : Tests bytes o.start keyids false → view_read view (Err OtherKeyid) ≡ kept keep_it (read_as type body keyids bytes)
+      role-keyids r = said-refused OtherKeyid (other-keyids type body keyids bytes o w h u a t r)
 
-        body-there : Takes bytes o.start body (Some a)
-        body-there v x = sym (held ok a p) ∙ t v x
+      module _ (r : Tests bytes o.start keyids true) where
+        -- an unknown spec_version
+        pub role-other : h.known ≡ false → view_read view (Err OtherSpec) ≡ kept keep_it (read_as type body keyids bytes)
+        role-other k = said-refused OtherSpec (other-spec type body keyids bytes o w h u a t r k)
 
-        pub role-keyids : (own : Bool) → Tests bytes o.start keyids own → own ≡ false → n ≡ 16
-            → view_read n b es ≡ Some (kept keep_it (read_as type body keyids bytes))
-        unfolding fault_number
-        role-keyids own r x e =
-            said-refused other_keyid
-            (other-keyids type body keyids bytes o w z h header-there a body-there (λ v y. sym x ∙ r v y)) e
-
-        module _ (own : Bool) (r : Tests bytes o.start keyids own) (x : own ≡ true) where
-          own-there : Tests bytes o.start keyids true
-          own-there v y = sym x ∙ r v y
-
-          pub role-other : h.known ≡ false → n ≡ 4 → view_read n b es ≡ Some (kept keep_it (read_as type body keyids bytes))
-          unfolding fault_number
-          role-other k e = said-refused other_spec (other-spec type body keyids bytes o w z h header-there a body-there own-there k) e
-
-          pub role-says : h.known ≡ true → n ≡ 0 → ((spec : Bytes) → b ≡ keep_it (file spec h.version h.expires a))
-              → es ≡ view_entries o.entries → view_read n b es ≡ Some (kept keep_it (read_as type body keyids bytes))
-          unfolding view_read kept
-          role-says k e m f =
-              let s = says-file type body keyids bytes o w z h header-there a body-there own-there k in
-              let y : view_read n b es ≡ Some (says b es) = rw e refl in
-              y ∙ ap (λ (x : B). Some (says x es)) (m s.0) ∙ ap (λ (ks : List Bytes). Some (says (keep_it (file s.0 h.version h.expires a)) ks)) f
-              ∙ sym (ap (λ (x : Read (File A)). Some (kept keep_it x)) s.1)
+        -- all well
+        pub role-says : h.known ≡ true → (b : Signed T) → ((spec : Bytes) → view b.signed ≡ keep_it (file spec h.version h.expires a))
+            → view_entries b.entries ≡ view_entries o.entries → view_read view (Ok b) ≡ kept keep_it (read_as type body keyids bytes)
+        unfolding view_read kept
+        role-says k b m e =
+            let s = says-file type body keyids bytes o w h u a t r k in
+            ap (λ (x : B). says x (view_entries b.entries)) (m s.0) ∙ ap (λ (ks : List Bytes). says (keep_it (file s.0 h.version h.expires a)) ks) e
+            ∙ sym (ap (λ (x : Read (File A)). kept keep_it x) s.1)

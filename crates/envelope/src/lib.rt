@@ -34,6 +34,7 @@ pub enum Fault {
 impl From<Fault> for Refusal {
     ghost from_gives = { λ f r. refusal_number r ≡ fault_number (view_fault f) };
 
+    #[tactic(auto, unfolding(rules::specs::Steps::fault_number))]
     fn from(fault: Fault) -> Refusal {
         match fault {
             Fault::TooLong => Refusal::TooLong,
@@ -222,10 +223,7 @@ pub fn header_at(s: &[u8], at: usize, kind: &[u8], body: Extent) -> Option<Heade
 fn is_object(s: &[u8], at: usize) -> bool
     ensures { Takes s.now at object (keep result tt) }
 {
-    match lookup::first_member(s, at) {
-        Member::NoObject => false,
-        Member::End(_) | Member::At { name: _, value: _ } => true,
-    }
+    !matches!(lookup::first_member(s, at), Member::NoObject)
 }
 
 // An envelope that was opened: the place of the signed part, and the keyids of its entries.

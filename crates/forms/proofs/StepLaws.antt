@@ -1,5 +1,5 @@
 -- Steps of a form at a place of the text: what is nothing stays nothing, and what is found is handed on.
-use mathlib.Core.Path.{◌≡◌, sym, ◌∙◌}
+use mathlib.Core.Path.{◌≡◌, refl, sym, ◌∙◌}
 use Rattle.std.specs.declared.option.Option.{Option}
 use Rattle.std.specs.declared.option.Option.TheVariants.{None, Some}
 use Rattle.canonical_json.specs.Options.{bind}
@@ -9,10 +9,12 @@ use Rattle.base.specs.Bytes.{Bytes}
 use Rattle.canonical_json.specs.Json.{Json}
 use Rattle.canonical_json.specs.Read.{raw}
 use Rattle.canonical_json.specs.Fields.{text, field}
-use Rattle.lookup.specs.Place.{Stands, PlaceOf, Finds, Takes}
+use Rattle.lookup.specs.Place.{Stands, PlaceOf, Finds, Takes, Reads}
 use Rattle.lookup.specs.Leaves.{string_in}
 use Rattle.lookup.proofs.StringLaws.{no_text, text-there}
+use Rattle.lookup.specs.declared.Spanned.{Spanned}
 use Rattle.rules.specs.Take.{◌>>=◌, must, may, inside}
+use Rattle.forms.specs.Member.{TakesMust, TakesMay}
 
 module _ {A B : Type 0} {o : Option A} (f : A → Option B) where
   pub stop : o ≡ None → (o >>= f) ≡ None
@@ -49,6 +51,24 @@ module _ (s : Bytes) (p : ℕ) (k : Bytes) {r : Option ℕ} (w : Finds s p (fiel
     pub may_at : (x : ℕ) → r ≡ Some x → (i : Option A) → Takes s x f i → o ≡ (i >>= λ a. Some (Some a)) → Takes s p (may k f) o
     unfolding may inside
     may_at x q i t e v h = let z = holds x q v h in rw (z.1, ← t z.0 z.2) e
+
+module _ {A : Type 0} (s : Bytes) (f : Json → Option A) (found : Option ℕ) where
+  pub must-lacks : found ≡ None → (o : Option A) → o ≡ None → TakesMust s found f o
+  must-lacks q o e p k w = must-none s p k w f o q e
+
+  pub must-holds : (x : ℕ) → found ≡ Some x → (o : Option A) → Takes s x f o → TakesMust s found f o
+  must-holds x q o t p k w = must-at s p k w f o x q t
+
+  pub may-lacks : found ≡ None → TakesMay s found f (Some None)
+  may-lacks q p k w = may_none s p k w f (Some None) q refl
+
+  pub may-holds : (x : ℕ) → found ≡ Some x → (i : Option A) → Takes s x f i → (o : Option (Option A)) → o ≡ (i >>= λ a. Some (Some a)) → TakesMay s found f o
+  may-holds x q i t o e p k w = may_at s p k w f o x q i t e
+
+-- ## A reader that refuses
+
+pub reads-none : {T A : Type 0} (view : T → A) (s : Bytes) (p : ℕ) (form : Json → Option A) (r : Option (Spanned T)) → r ≡ None → Takes s p form None → Reads view s p form r
+reads-none view s p form r q t = rw q (record { means = t; end = tt })
 
 -- ## A string
 

@@ -3,7 +3,7 @@ use mathlib.Core.Path.{◌≡◌, refl, sym, ap, ◌∙◌}
 use mathlib.Core.List.{[], ◌∷◌, ◌++◌, append-nil}
 use Rattle.std.specs.declared.option.Option.TheVariants.{None, Some}
 use mathlib.Core.Bool.{Bool, true, false, cond, and-true, and-false}
-use Prim.Native.Nat.{ℕ, zero, suc, ◌+◌, ◌-◌, ◌*◌, ◌<◌}
+use Prim.Native.Nat.{ℕ, zero, suc, ◌+◌, ◌*◌, ◌<◌}
 use native.Mathlib.Omega.{arith}
 use lib.Dec.{eqb, ltb}
 use lib.ListN.{length, take, drop, take-append-drop}
@@ -11,7 +11,7 @@ use lib.Seq.{take_all, take_at, drop-drop, drop_at}
 use borrow.Author.Tests.{eq-eqb, ne_eqb, eqb-true, eqb-false, le-leb, ltb-true, ltb-false}
 use Rattle.base.specs.Bytes.{Bytes}
 use Rattle.base.specs.Window.{window, byte_at}
-use Rattle.base.specs.Hex.{digit_of, all_hex, is_hex, undo, Undone}
+use Rattle.base.specs.Hex.{digit_of, all_hex, is_hex, undo, undone}
 use Rattle.base.proofs.TestLaws.{both, same_test}
 use Rattle.base.proofs.PlaceLaws.{at-cons, at-end}
 use Rattle.base.proofs.HexLaws.{hex_range, not-long, hex-parts}
@@ -35,9 +35,6 @@ use Rattle.forms.specs.View.{Fills, digits_at, HexAt}
 -- ## A buffer that is filled
 
 module _ (t b : Bytes) where
-  pub fills-not : (length t ≡ length b → ⊥) → Fills t b false b
-  fills-not n = record { fits = sym (ne_eqb (length t) (length b) n); is = refl }
-
   copied-whole : length t ≡ length b → copied t b ≡ t
   unfolding copied
   copied-whole e = rw (le-leb (length t) (length b) (omega arith), at-end b (length t) (omega arith)) (append-nil t)
@@ -61,14 +58,26 @@ undo-length (suc n) [] e = absurd (omega arith)
 undo-length (suc n) (a ∷ []) e = absurd (omega arith)
 undo-length (suc n) (a ∷ (b ∷ t)) e = ap suc (undo-length n t (omega arith))
 
--- digits t, undone into n zeros
-unhex-undone : (n : ℕ) (t zeros out : Bytes) (ok : Bool) → length zeros ≡ n → Undone t zeros ok out → keep ok (window out 0 n) ≡ unhex n t
-unfolding unhex keep
-unhex-undone n t zeros out ok z u = step ok (u.answer ∙ rw z) u.buffer
-  where
-    step : (ok : Bool) → ok ≡ is_hex n t → out ≡ cond ok (undo t) zeros → keep ok (window out 0 n) ≡ keep (is_hex n t) (undo t)
-    step true k e = rw (← k) (ap Some (rw e (whole-window (undo t) n (undo-length n t (hex-parts n t (sym k)).0))))
-    step false k e = rw (← k) refl
+module _ (n : ℕ) (t : Bytes) where
+  -- n bytes undone are what the form says
+  pub unhex-undone : undone n t ≡ unhex n t
+  unfolding undone unhex keep
+  unhex-undone = go (is_hex n t)
+    where
+      go : (b : Bool) → cond b (Some (undo t)) None ≡ keep b (undo t)
+      go true = refl
+      go false = refl
+
+  pub unhex-some : (a : Bytes) → Some a ≡ unhex n t → (is_hex n t ≡ true) × (undo t ≡ a)
+  unfolding unhex
+  unhex-some a e = kept-is (is_hex n t) (undo t) (sym e)
+
+  -- they are n, so that they are their own window
+  pub unhex-window : (a : Bytes) → Some a ≡ unhex n t → Some (window a 0 n) ≡ unhex n t
+  unhex-window a e =
+      let k = unhex-some a e in
+      let l : length a ≡ n = ap length (sym k.1) ∙ undo-length n t (hex-parts n t k.0).0 in
+      ap Some (whole-window a n l) ∙ e
 
 module _ (n : ℕ) (t b after : Bytes) (done : Bool) (long : length b ≡ n * 2) (w : Fills t b done after) where
   pub unhex-not : done ≡ false → None ≡ unhex n t
@@ -77,10 +86,8 @@ module _ (n : ℕ) (t b after : Bytes) (done : Bool) (long : length b ≡ n * 2)
       let x : (length t ≡ n * 2 → ⊥) = λ (e : length t ≡ n * 2). eqb-false (length t) (length b) (sym w.fits ∙ d) (e ∙ sym long) in
       rw (not-long n t x)
 
-  pub unhex-is : done ≡ true → (zeros out : Bytes) (ok : Bool) → length zeros ≡ n → Undone after zeros ok out → keep ok (window out 0 n) ≡ unhex n t
-  unhex-is d zeros out ok z u =
-      let a : after ≡ t = w.is ∙ rw d in
-      unhex-undone n after zeros out ok z u ∙ ap (unhex n) a
+  pub unhex-is : done ≡ true → undone n after ≡ unhex n t
+  unhex-is d = unhex-undone n after ∙ ap (unhex n) (w.is ∙ rw d)
 
 -- ## Hex that is undone where it stands
 
@@ -135,14 +142,14 @@ module _ (s : Bytes) (i m : ℕ) (q : byte_at s (i + m) ≡ 34) where
       let cut : drop i s ≡ t ++ (34 ∷ r) = sym (take-append-drop m (drop i s)) ∙ ap (λ (x : Bytes). t ++ x) (drop-drop m i s ∙ at-cons s (i + m) quote-inside ∙ ap (λ (b : ℕ). b ∷ r) q) in
       ap raw (cut ∙ sym (put-hex t (34 ∷ r) e)) ∙ raw-bytes t r
 
-pub unhex-plain : (n : ℕ) (s : Bytes) (i e : ℕ) → e ≡ i + n * 2 → byte_at s (i + n * 2) ≡ 34 → (zeros out : Bytes) (ok : Bool) → length zeros ≡ n
-    → Undone (take (e - i) (drop i s)) zeros ok out → ok ≡ true → keep ok (window out 0 n) ≡ unhex n (raw (drop i s))
-unhex-plain n s i e l q zeros out ok z u k =
-    let t = take (e - i) (drop i s) in
-    let m : e - i ≡ n * 2 = omega arith in
-    let h = (hex-parts n t (sym (u.answer ∙ rw z) ∙ k)).1 in
-    let p : raw (drop i s) ≡ t = rw m (raw-hex s i (n * 2) q (rw m at h)) in
-    unhex-undone n t zeros out ok z u ∙ ap (unhex n) (sym p)
+-- so they are undone there
+pub unhex-plain : (n m : ℕ) (s : Bytes) (i : ℕ) (a : Bytes) → m ≡ n * 2 → byte_at s (i + n * 2) ≡ 34 → Some a ≡ undone n (take m (drop i s)) → Some a ≡ unhex n (raw (drop i s))
+unhex-plain n m s i a l q u =
+    let t = take m (drop i s) in
+    let e : Some a ≡ unhex n t = u ∙ unhex-undone n t in
+    let h : all_hex t ≡ true = (hex-parts n t (unhex-some n t a e).0).1 in
+    let p : raw (drop i s) ≡ t = raw-hex s i m (rw l q) h in
+    e ∙ ap (unhex n) (sym p)
 
 -- ## Digits that are tested where they stand
 
@@ -216,6 +223,9 @@ module _ (n : ℕ) (t : Bytes) where
 -- a place that was found
 pub hex-at : (n : ℕ) (s : Bytes) (r : Option ℕ) (i : ℕ) → r ≡ Some i → HexAt n s r → is_hex n (raw (drop i s)) ≡ true
 hex-at n s r i q h = rw q at h
+
+pub hex_at-none : (n : ℕ) (s : Bytes) (r : Option ℕ) → r ≡ None → HexAt n s r
+hex_at-none n s r q = rw q tt
 
 -- ## A date
 

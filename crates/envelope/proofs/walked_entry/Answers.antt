@@ -1,31 +1,31 @@
 -- `walked_entry` meets its contract.
-use mathlib.Core.Path.{sym, ap, ◌∙◌}
-use Rattle.canonical_json.specs.Fields.{keep}
 use Rattle.forms.specs.View.{undone_at}
-use Rattle.forms.proofs.TextLaws.{hex-at}
-use Rattle.envelope.specs.Header.{view_entry}
+use Rattle.envelope.specs.Header.{entry_in}
 use Rattle.envelope.proofs.EntryLaws.{no-keyid, no-sig, entry-is, broken-entry}
 use Rattle.envelope.proofs.walked_entry.Goals as goal
 
-pub returns-in-None : goal.returns-in-None
+pub returns-in_err-keyid : goal.returns-in_err-keyid
 unfolding undone_at
-returns-in-None c =
+returns-in_err-keyid c =
     let m = c.find_members-m.ensures in
-    broken-entry _ _ _ c.no_entry.ensures.0 c.no_entry.ensures.1 (λ v g. no-keyid v (ap (undone_at _) (sym c.in-None.is) ∙ c.digits_field.ensures.0 _ _ m.first.means v g))
+    rw c.from_residual.ensures (broken-entry _ _ (λ v h. no-keyid v (c.in_err-keyid.ensures.0 _ _ m.first.means v h)))
 
-pub returns-in-None-digits_field : goal.returns-in-None-digits_field
+pub returns-in_err-sig : goal.returns-in_err-sig
 unfolding undone_at
-returns-in-None-digits_field c =
+returns-in_err-sig c =
     let m = c.find_members-m.ensures in
-    broken-entry _ _ _ c.no_entry-in-None-digits_field.ensures.0 c.no_entry-in-None-digits_field.ensures.1 (λ v g. no-sig v _ (ap (undone_at _) (sym c.in-Some.is) ∙ c.digits_field.ensures.0 _ _ m.first.means v g) (ap (undone_at _) (sym c.in-None-digits_field.is) ∙ c.digits_field-in-Some.ensures.0 _ _ m.second.means v g))
+    rw c.from_residual-in_err-sig.ensures (broken-entry _ _ (λ v h. no-sig v _ (c.in_ok-keyid.ensures.0 _ _ m.first.means v h) (c.in_err-sig.ensures.0 _ _ m.second.means v h)))
 
-pub returns-in-Some-digits_field : goal.returns-in-Some-digits_field
-unfolding undone_at view_entry keep
-returns-in-Some-digits_field c =
+pub returns : goal.returns
+unfolding undone_at entry_in
+returns c =
     let m = c.find_members-m.ensures in
+    let keyid = c.in_ok-keyid.ensures in
+    let sig = c.in_ok-sig.ensures in
     record {
-      means = λ v g. entry-is v _ (ap (undone_at _) (sym c.in-Some.is) ∙ c.digits_field.ensures.0 _ _ m.first.means v g) _ (ap (undone_at _) (sym c.in-Some-digits_field.is) ∙ c.digits_field-in-Some.ensures.0 _ _ m.second.means v g);
-      keyid = λ _. hex-at _ _ _ _ c.in-Some.is c.digits_field.ensures.1;
-      sig = λ _. hex-at _ _ _ _ c.in-Some-digits_field.is c.digits_field-in-Some.ensures.1;
-      end = m.end;
+      reads = record {
+        means = λ v h. entry-is v _ (keyid.0 _ _ m.first.means v h) _ (sig.0 _ _ m.second.means v h);
+        end = m.end;
+      };
+      digits = record { keyid = keyid.1; sig = sig.1 };
     }

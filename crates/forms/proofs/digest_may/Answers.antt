@@ -1,14 +1,19 @@
 -- `digest_may` meets its contract.
-use mathlib.Core.Path.{refl}
-use Rattle.canonical_json.specs.Fields.{keep}
-use Rattle.forms.specs.View.{view_may_id}
-use Rattle.forms.proofs.StepLaws.{may_none, may_at}
-use Rattle.forms.proofs.ListedLaws.{digest-given}
+use mathlib.Core.Path.{refl, ap}
+use Rattle.std.specs.Option.{option_map}
+use Rattle.canonical_json.specs.Options.{bind}
+use Rattle.records.specs.View.{view_id}
+use Rattle.forms.proofs.StepLaws.{may-lacks, may-holds}
 use Rattle.forms.proofs.digest_may.Goals as goal
 
-pub returns-in-None : goal.returns-in-None
-unfolding view_may_id keep
-returns-in-None c = λ p k w. may_none _ p k w _ _ c.in-None.is refl
+pub returns-in_default : goal.returns-in_default
+returns-in_default c = may-lacks _ _ _ c.in_default.is
 
-pub returns-in-Some : goal.returns-in-Some
-returns-in-Some c = λ p k w. may_at _ p k w _ _ _ c.in-Some.is _ c.digest_at-digest.ensures (digest-given c.digest_at-digest.result)
+pub returns-in_err-digest : goal.returns-in_err-digest
+unfolding bind
+returns-in_err-digest c =
+    may-holds _ _ _ _ c.in-Some.is _ (rw c.in_err-digest.was at c.digest_at.ensures) _ (ap (option_map (option_map view_id)) c.from_residual.ensures)
+
+pub returns : goal.returns
+unfolding bind
+returns c = may-holds _ _ _ _ c.in-Some.is _ (rw c.in_ok-digest.was at c.digest_at.ensures) _ refl

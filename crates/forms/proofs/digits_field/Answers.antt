@@ -1,12 +1,15 @@
 -- `digits_field` meets its contract.
-use mathlib.Core.Path.{refl}
+use mathlib.Core.Path.{ap}
 use Rattle.forms.specs.View.{undone_at}
-use Rattle.forms.proofs.StepLaws.{must-none, must-at}
+use Rattle.forms.proofs.StepLaws.{must-lacks, must-holds}
+use Rattle.forms.proofs.TextLaws.{hex_at-none}
 use Rattle.forms.proofs.digits_field.Goals as goal
 
-pub returns-in-None : goal.returns-in-None
+pub returns-in_err-found : goal.returns-in_err-found
 unfolding undone_at
-returns-in-None c = (λ p k w. must-none _ p k w _ _ c.in-None.is refl, tt)
+returns-in_err-found c =
+    let e = c.from_residual.ensures in
+    (must-lacks _ _ _ c.in_err-found.was _ (ap (undone_at c.args.s.now) e), hex_at-none c.args.n c.args.s.now _ e)
 
-pub returns-in-Some : goal.returns-in-Some
-returns-in-Some c = (λ p k w. must-at _ p k w _ _ _ c.in-Some.is c.digits_at.ensures.0, c.digits_at.ensures.1)
+pub returns : goal.returns
+returns c = (must-holds _ _ _ _ c.in_ok-found.was _ c.digits_at.ensures.0, c.digits_at.ensures.1)

@@ -1,20 +1,17 @@
 -- `id_in` meets its contract: digits up to a quote are the whole string.
-use mathlib.Core.Path.{refl, sym, ◌∙◌}
-use borrow.Author.Tests.{not-false}
+use mathlib.Core.Path.{sym, ◌∙◌}
+use native.Mathlib.Omega.{arith}
 use Rattle.records.specs.View.{view_id}
-use Rattle.forms.specs.View.{view_id_at}
-use Rattle.forms.proofs.TextLaws.{quote-inside, unhex-plain}
+use Rattle.forms.proofs.TextLaws.{quote-inside, unhex-plain, unhex-window}
 use Rattle.std.proofs.Common.{rules}
 use Rattle.forms.proofs.id_in.Goals as goal
 
-pub slice_bounds-hex32-end : goal.slice_bounds-hex32-end
-slice_bounds-hex32-end c = let h = quote-inside _ _ _ (sym c.byte_after.ensures ∙ c.if-byte_after-ne34.false) in search rules
+pub slice_bounds-hex_array-end : goal.slice_bounds-hex_array-end
+slice_bounds-hex_array-end c = let h = quote-inside _ _ _ (sym c.byte_after.ensures ∙ c.if-byte_after-eq34.true) in search rules
 
-pub overflow_add-e : goal.overflow_add-e
-overflow_add-e c = let h = quote-inside _ _ _ (sym c.byte_after.ensures ∙ c.if-byte_after-ne34.false) in search rules
+pub overflow_add-i : goal.overflow_add-i
+overflow_add-i c = let h = quote-inside _ _ _ (sym c.byte_after.ensures ∙ c.if-byte_after-eq34.true) in search rules
 
-pub returns : goal.returns
-unfolding view_id_at view_id
-returns c =
-    let q = sym c.byte_after.ensures ∙ c.if-byte_after-ne34.false in
-    unhex-plain 32 _ _ _ refl q _ _ _ refl c.hex32-undone.ensures (not-false _ c.if-not-undone.false)
+pub returns-in-Some : goal.returns-in-Some
+unfolding view_id
+returns-in-Some c = unhex-window 32 _ _ (unhex-plain 32 _ _ _ _ (omega arith) (sym c.byte_after.ensures ∙ c.if-byte_after-eq34.true) (sym c.in-Some.is ∙ c.hex_array.ensures))

@@ -1,11 +1,10 @@
 -- `number_field` meets its contract.
-use mathlib.Core.Path.{refl}
 use Rattle.lookup.proofs.NumberLaws.{number_takes}
-use Rattle.forms.proofs.StepLaws.{must-none, must-at}
+use Rattle.forms.proofs.StepLaws.{must-lacks, must-holds}
 use Rattle.forms.proofs.number_field.Goals as goal
 
-pub returns-in-None : goal.returns-in-None
-returns-in-None c = λ p k w. must-none _ p k w _ _ c.in-None.is refl
+pub returns-in_err-found : goal.returns-in_err-found
+returns-in_err-found c = must-lacks _ _ _ c.in_err-found.was _ c.from_residual.ensures
 
-pub returns-in-Some : goal.returns-in-Some
-returns-in-Some c = λ p k w. must-at _ p k w _ _ _ c.in-Some.is (number_takes _ _ _ _ _ c.number_at.ensures)
+pub returns : goal.returns
+returns c = must-holds _ _ _ _ c.in_ok-found.was _ (number_takes _ _ _ _ _ c.number_at.ensures)

@@ -1,20 +1,17 @@
 -- `number_may` meets its contract.
-use mathlib.Core.Path.{refl}
+use mathlib.Core.Path.{refl, sym, ◌∙◌}
 use Rattle.canonical_json.specs.Options.{bind}
-use Rattle.canonical_json.specs.Fields.{keep}
 use Rattle.lookup.proofs.NumberLaws.{number_takes}
-use Rattle.forms.specs.View.{view_may_number}
-use Rattle.forms.proofs.StepLaws.{may_none, may_at}
+use Rattle.forms.proofs.StepLaws.{may-lacks, may-holds}
 use Rattle.forms.proofs.number_may.Goals as goal
 
-pub returns-in-None : goal.returns-in-None
-unfolding view_may_number keep bind
-returns-in-None c = λ p k w. may_none _ p k w _ _ c.in-None.is refl
+pub returns-in_default : goal.returns-in_default
+returns-in_default c = may-lacks _ _ _ c.in_default.is
 
-pub returns-in-None : goal.returns-in-None
-unfolding view_may_number keep bind
-returns-in-None c = λ p k w. may_at _ p k w _ _ _ c.in-Some.is _ (number_takes _ _ _ _ _ c.number_at.ensures) (rw c.in-None.is refl)
+pub returns-in_err-n : goal.returns-in_err-n
+unfolding bind
+returns-in_err-n c = may-holds _ _ _ _ c.in-Some.is _ (number_takes _ _ _ _ _ (sym c.in_err-n.was ∙ c.number_at.ensures)) _ c.from_residual.ensures
 
-pub returns-in-Some : goal.returns-in-Some
-unfolding view_may_number keep bind
-returns-in-Some c = λ p k w. may_at _ p k w _ _ _ c.in-Some.is _ (number_takes _ _ _ _ _ c.number_at.ensures) (rw c.in-Some.is refl)
+pub returns : goal.returns
+unfolding bind
+returns c = may-holds _ _ _ _ c.in-Some.is _ (number_takes _ _ _ _ _ (sym c.in_ok-n.was ∙ c.number_at.ensures)) _ refl
