@@ -2,6 +2,8 @@
 use mathlib.Core.Path.{◌≡◌, refl, sym, ap, ◌∙◌}
 use Rattle.std.specs.declared.option.Option.{Option}
 use Rattle.std.specs.declared.option.Option.TheVariants.{None, Some}
+use Rattle.std.specs.Option.{is_some}
+use Rattle.std.specs.Prelude.{MatchOption}
 use Rattle.canonical_json.specs.Options.{bind}
 use mathlib.Core.Bool.{Bool, true, false}
 use mathlib.Core.List.{List}
@@ -18,44 +20,48 @@ use Rattle.rules.specs.Records.{Key, Role, Root}
 use Rattle.rules.specs.Forms as forms
 use Rattle.rules.specs.Forms.{role, root}
 use Rattle.rules.specs.State.{keep_role}
-use Rattle.forms.proofs.ListedLaws.{keep_in}
-use Rattle.forms.proofs.StepLaws.{stop, on}
+use Rattle.forms.specs.Member.{TakesMust}
+use Rattle.forms.proofs.StepLaws.{stop, on, must-lacks, must-holds}
 use Rattle.root_file.specs.Body.{keyids_in, role_kept, Roles, roles_kept, keep_body, root_kept, is_truth}
 
 -- ## true or false
 
-module _ (s : Bytes) (p : ℕ) where
-  pub truth-not : None ≡ truth_in (drop p s) → Takes s p is_truth (keep false tt)
-  unfolding is_truth keep
-  truth-not e v h = sym (stop _ (sym (truth_takes s p None e v h)))
+truth_is : (s : Bytes) (p : ℕ) (o : Option Bool) → o ≡ truth_in (drop p s) → Takes s p is_truth (keep (is_some o) tt)
+unfolding is_truth keep
+truth_is s p None e v h = sym (stop _ (sym (truth_takes s p None e v h)))
+truth_is s p (Some b) e v h = sym (on _ (sym (truth_takes s p (Some b) e v h)))
 
-  pub truth-said : (b : Bool) → Some b ≡ truth_in (drop p s) → Takes s p is_truth (keep true tt)
-  unfolding is_truth keep
-  truth-said b e v h = sym (on _ (sym (truth_takes s p (Some b) e v h)))
+pub snapshot_rule : (s : Bytes) (found : Option ℕ) (b : Bool) → MatchOption found (b ≡ false) (λ x. b ≡ is_some (truth_in (drop x s))) → TakesMust s found is_truth (keep b tt)
+unfolding keep
+snapshot_rule s None b m = rw m (must-lacks s is_truth None refl None refl)
+snapshot_rule s (Some x) b m = rw m (must-holds s is_truth (Some x) x refl _ (truth_is s x _ refl))
 
 -- ## The four roles
 
-module _ (keys : List Key) (v : Json) (a : Bool) (r : Role) (e : keep a r ≡ must (bytes "root") (role_kept keys) v) where
-  pub no_root-role : a ≡ false → None ≡ roles_kept keys v
-  unfolding roles_kept bind keep
-  no_root-role q = rw (← e, q)
+module _ (keys : List Key) (v : Json) where
+  pub no_root-role : None ≡ must (bytes "root") (role_kept keys) v → None ≡ roles_kept keys v
+  unfolding roles_kept bind
+  no_root-role e = rw (← e)
 
-  module _ (q : a ≡ true) (b : Bool) (t : Role) (f : keep b t ≡ must (bytes "timestamp") (role_kept keys) v) where
-    pub no-timestamp_role : b ≡ false → None ≡ roles_kept keys v
-    unfolding roles_kept bind keep
-    no-timestamp_role x = rw (← e, q, ← f, x)
+  module _ (r : Role) (e : Some r ≡ must (bytes "root") (role_kept keys) v) where
+    pub no-timestamp_role : None ≡ must (bytes "timestamp") (role_kept keys) v → None ≡ roles_kept keys v
+    unfolding roles_kept bind
+    no-timestamp_role f = rw (← e, ← f)
 
-    module _ (x : b ≡ true) (c : Bool) (n : Role) (g : keep c n ≡ must (bytes "snapshot") (role_kept keys) v) where
-      pub no-snapshot_role : c ≡ false → None ≡ roles_kept keys v
-      unfolding roles_kept bind keep
-      no-snapshot_role y = rw (← e, q, ← f, x, ← g, y)
+    module _ (t : Role) (f : Some t ≡ must (bytes "timestamp") (role_kept keys) v) where
+      pub no-snapshot_role : None ≡ must (bytes "snapshot") (role_kept keys) v → None ≡ roles_kept keys v
+      unfolding roles_kept bind
+      no-snapshot_role g = rw (← e, ← f, ← g)
 
-      pub roles_are : c ≡ true → (d : Bool) (m : Role) → keep d m ≡ must (bytes "targets") (role_kept keys) v
-          → keep d (record { root_role = r; timestamp_role = t; snapshot_role = n; targets_role = m }) ≡ roles_kept keys v
-      unfolding roles_kept bind keep
-      roles_are y d m h =
-          rw (← e, q, ← f, x, ← g, y, ← h)
-          (keep_in d m (λ z. record { root_role = r; timestamp_role = t; snapshot_role = n; targets_role = z }))
+      module _ (n : Role) (g : Some n ≡ must (bytes "snapshot") (role_kept keys) v) where
+        pub no-targets_role : None ≡ must (bytes "targets") (role_kept keys) v → None ≡ roles_kept keys v
+        unfolding roles_kept bind
+        no-targets_role h = rw (← e, ← f, ← g, ← h)
+
+        pub roles_are : (m : Role) → Some m ≡ must (bytes "targets") (role_kept keys) v
+            → Some (record { root_role = r; timestamp_role = t; snapshot_role = n; targets_role = m }) ≡ roles_kept keys v
+        unfolding roles_kept bind
+        roles_are m h = rw (← e, ← f, ← g, ← h)
 
 -- ## The body
 
@@ -149,17 +155,21 @@ root_by v = go (field (bytes "consistent_snapshot") v)
     go None = refl
     go (Some w) = said (truth w)
 
-module _ (v : Json) (a : Bool) (e : keep a tt ≡ must (bytes "consistent_snapshot") is_truth v) where
-  pub no_truth : a ≡ false → None ≡ root_kept v
-  unfolding bind keep
-  no_truth q = rw (root_by v, ← e, q)
+module _ (v : Json) where
+  pub no_truth : None ≡ must (bytes "consistent_snapshot") is_truth v → None ≡ root_kept v
+  unfolding bind
+  no_truth e = rw (root_by v, ← e)
 
-  module _ (q : a ≡ true) (b : Bool) (keys : List Key) (f : keep b keys ≡ must (bytes "keys") forms.keys v) where
-    pub no_keys : b ≡ false → None ≡ root_kept v
-    unfolding bind keep
-    no_keys x = rw (root_by v, ← e, q, ← f, x)
+  module _ (e : Some tt ≡ must (bytes "consistent_snapshot") is_truth v) where
+    pub no_keys : None ≡ must (bytes "keys") forms.keys v → None ≡ root_kept v
+    unfolding bind
+    no_keys f = rw (root_by v, ← e, ← f)
 
-    pub body_is : b ≡ true → (c : Bool) (roles : Roles) → keep c roles ≡ must (bytes "roles") (roles_kept keys) v
-        → keep c (record { keys = keys; roles = roles }) ≡ root_kept v
-    unfolding bind keep
-    body_is x c roles g = rw (root_by v, ← e, q, ← f, x, ← g) (keep_in c roles (λ z. record { keys = keys; roles = z }))
+    module _ (keys : List Key) (f : Some keys ≡ must (bytes "keys") forms.keys v) where
+      pub no_roles : None ≡ must (bytes "roles") (roles_kept keys) v → None ≡ root_kept v
+      unfolding bind
+      no_roles g = rw (root_by v, ← e, ← f, ← g)
+
+      pub body_is : (roles : Roles) → Some roles ≡ must (bytes "roles") (roles_kept keys) v → Some (record { keys = keys; roles = roles }) ≡ root_kept v
+      unfolding bind
+      body_is roles g = rw (root_by v, ← e, ← f, ← g)

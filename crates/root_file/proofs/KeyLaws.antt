@@ -1,32 +1,33 @@
 -- A key, step by step.
 use mathlib.Core.Path.{◌≡◌}
-use Rattle.std.specs.declared.option.Option.TheVariants.{None}
+use Rattle.std.specs.declared.option.Option.TheVariants.{None, Some}
 use Rattle.canonical_json.specs.Options.{bind}
-use mathlib.Core.Bool.{Bool, true, false}
 use Rattle.base.specs.Bytes.{Bytes, bytes}
 use Rattle.canonical_json.specs.Json.{Json}
-use Rattle.canonical_json.specs.Fields.{keep}
 use Rattle.rules.specs.Limits.{key_size}
 use Rattle.rules.specs.Take.{must, word, unhex, hex}
 use Rattle.rules.specs.Forms.{key}
-use Rattle.forms.proofs.ListedLaws.{keep_in}
 
-module _ (name : Bytes) (v : Json) (ok : Bool) (id : Bytes) (e : keep ok id ≡ unhex key_size name) where
-  pub no-keyid : ok ≡ false → None ≡ key name v
-  unfolding key bind keep
-  no-keyid q = rw (← e, q)
+module _ (name : Bytes) (v : Json) where
+  pub no-keyid : None ≡ unhex key_size name → None ≡ key name v
+  unfolding key bind
+  no-keyid e = rw (← e)
 
-  module _ (q : ok ≡ true) (typed : Bool) (f : keep typed tt ≡ must (bytes "keytype") (word (bytes "ed25519")) v) where
-    pub no_keytype : typed ≡ false → None ≡ key name v
-    unfolding key bind keep
-    no_keytype t = rw (← e, q, ← f, t)
+  module _ (id : Bytes) (e : Some id ≡ unhex key_size name) where
+    pub no_keytype : None ≡ must (bytes "keytype") (word (bytes "ed25519")) v → None ≡ key name v
+    unfolding key bind
+    no_keytype f = rw (← e, ← f)
 
-    module _ (t : typed ≡ true) (schemed : Bool) (g : keep schemed tt ≡ must (bytes "scheme") (word (bytes "ed25519")) v) where
-      pub no_scheme : schemed ≡ false → None ≡ key name v
-      unfolding key bind keep
-      no_scheme u = rw (← e, q, ← f, t, ← g, u)
+    module _ (f : Some tt ≡ must (bytes "keytype") (word (bytes "ed25519")) v) where
+      pub no_scheme : None ≡ must (bytes "scheme") (word (bytes "ed25519")) v → None ≡ key name v
+      unfolding key bind
+      no_scheme g = rw (← e, ← f, ← g)
 
-      pub key-is : schemed ≡ true → (given : Bool) (p : Bytes) → keep given p ≡ must (bytes "keyval") (must (bytes "public") (hex key_size)) v
-          → keep given (record { keyid = id; public = p }) ≡ key name v
-      unfolding key bind keep
-      key-is u given p h = rw (← e, q, ← f, t, ← g, u, ← h) (keep_in given p (λ x. record { keyid = id; public = x }))
+      module _ (g : Some tt ≡ must (bytes "scheme") (word (bytes "ed25519")) v) where
+        pub no-public : None ≡ must (bytes "keyval") (must (bytes "public") (hex key_size)) v → None ≡ key name v
+        unfolding key bind
+        no-public h = rw (← e, ← f, ← g, ← h)
+
+        pub key-is : (p : Bytes) → Some p ≡ must (bytes "keyval") (must (bytes "public") (hex key_size)) v → Some (record { keyid = id; public = p }) ≡ key name v
+        unfolding key bind
+        key-is p h = rw (← e, ← f, ← g, ← h)

@@ -1,4 +1,3 @@
-pub mod KeepLaws
 pub mod KeyLaws
 pub mod TableLaws
 pub mod NamingLaws

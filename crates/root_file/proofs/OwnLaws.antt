@@ -13,12 +13,14 @@ use Rattle.canonical_json.specs.Json.{Json, Members, mnil, mcons}
 use Rattle.canonical_json.specs.Read.{raw}
 use Rattle.canonical_json.specs.Fields.{members, field}
 use Rattle.lookup.specs.Place.{Stands, Finds, Tests, EndsAt}
-use Rattle.lookup.specs.Walk.{MembersLeft, members-end, MembersOf, FirstMember, NextMember}
+use Rattle.lookup.specs.Walk.{MembersLeft, members-at, MembersOf, FirstMember, NextMember}
 use Rattle.lookup.specs.declared.Member.{Member}
 use Rattle.lookup.specs.declared.Member.TheVariants as member
 use Rattle.lookup.proofs.StandsLaws.{text-to, end-found, end_is}
 use Rattle.lookup.proofs.MemberLaws.{member-stands, member-name}
 use Rattle.rules.specs.Take.{must}
+use Rattle.root_file.specs.Keyids.{TestsTable}
+use Rattle.std.specs.Prelude.{MatchOption}
 use Rattle.rules.specs.Forms.{keyid_of, own_keyids, own_table}
 
 -- ## One key
@@ -40,7 +42,7 @@ module _ (s : Bytes) (i j : ℕ) where
 
 -- the members that are left decide the whole; or there is no table
 pub data OwnLeft (s : Bytes) (all : Bool) : Member → Type 0 where
-  no_table_lem : true ≡ all → OwnLeft s all member.NoObject
+  no-table : true ≡ all → OwnLeft s all member.NoObject
   left : {rest : Bytes} {m : Member} (ms : Members) → MembersLeft s rest m ms → own_keyids ms ≡ all → OwnLeft s all m
 
 pub own_first : (s : Bytes) (p : ℕ) (r : Member) → FirstMember s p r → (v : Json) → Stands s p v → OwnLeft s (own_table (members v)) r
@@ -48,18 +50,16 @@ unfolding own_table
 own_first s p r w v h = go (members v) (w.means v h)
   where
     go : (o : Option Members) → MembersOf s h.rest r o → OwnLeft s (own_table o) r
-    go None q = rw q (no_table_lem refl)
+    go None q = rw q (no-table refl)
     go (Some ms) l = left ms l refl
 
 module _ {s : Bytes} {all : Bool} where
-  pub own-none : OwnLeft s all member.NoObject → true ≡ all
-  own-none (no_table_lem e) = e
-  own-none (left _ l _) = elim l [ ]
-
-  pub own-end : {e : ℕ} → OwnLeft s all (member.End e) → true ≡ all
+  -- where no member is left
+  pub own-over : {m : Member} → ((i j : ℕ) → m ≡ member.At i j → ⊥) → OwnLeft s all m → true ≡ all
   unfolding own_keyids
-  own-end (left mnil (members-end d) q) = q
-  own-end (left (mcons _ _ _) l _) = elim l [ ]
+  own-over f (no-table e) = e
+  own-over f (left mnil l q) = q
+  own-over f (left (mcons _ _ _) (members-at {i = i} {j = j} _ _ _) q) = absurd (f i j refl)
 
   module _ {i j : ℕ} (b : Bool) (t : Tests s j (own s i) b) where
     pub own-not : b ≡ false → OwnLeft s all (member.At i j) → false ≡ all
@@ -75,12 +75,16 @@ module _ {s : Bytes} {all : Bool} where
 -- ## The table of a member
 
 module _ (s : Bytes) (p : ℕ) (k : Bytes) (found : Option ℕ) (w : Finds s p (field k) found) where
-  pub table_none : found ≡ None → Tests s p (λ v. own_table (must k members v)) true
+  table_none : found ≡ None → Tests s p (λ v. own_table (must k members v)) true
   unfolding must own_table bind
   table_none q v h = let z : field k v ≡ None = rw q at (w v h) in rw z
 
-  pub table_at : (x : ℕ) (r : Bool) → found ≡ Some x → Tests s x (λ v. own_table (members v)) r → Tests s p (λ v. own_table (must k members v)) r
+  table_at : (x : ℕ) (r : Bool) → found ≡ Some x → Tests s x (λ v. own_table (members v)) r → Tests s p (λ v. own_table (must k members v)) r
   unfolding must bind
   table_at x r q t v h =
       let z : (u : Json) × (field k v ≡ Some u) × Stands s x u = rw q at (w v h) in
       rw z.1 (t z.0 z.2)
+
+pub table_found : (s : Bytes) (found : Option ℕ) (b : Bool) → MatchOption found (b ≡ true) (λ x. Tests s x (λ v. own_table (members v)) b) → TestsTable s found b
+table_found s None b m p k w = rw m (table_none s p k None w refl)
+table_found s (Some x) b m p k w = table_at s p k (Some x) w x b refl m

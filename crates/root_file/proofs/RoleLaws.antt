@@ -65,8 +65,13 @@ module _ (t : KeyTable) (s : Bytes) (v : Json) where
       go false = refl
 
   module _ (bits n : ℕ) (e : Element) (g : Gathered t s v bits n e) where
-    pub no-keyids : e ≡ element.NoArray → None ≡ naming (view_table t) v
-    no-keyids q = whole-none (items-none (hex key_size) 1 max_keyids s e n g.ids _ g.walk q)
+    pub no-keyids : ((i : ℕ) → e ≡ element.At i → ⊥) → ((j : ℕ) → e ≡ element.End j → ⊥) → None ≡ naming (view_table t) v
+    no-keyids x y = go e refl
+      where
+        go : (m : Element) → e ≡ m → None ≡ naming (view_table t) v
+        go element.NoArray q = whole-none (items-none (hex key_size) 1 max_keyids s e n g.ids _ g.walk q)
+        go (element.End j) q = absurd (y j q)
+        go (element.At i) q = absurd (x i q)
 
     pub few-keyids : (j : ℕ) → e ≡ element.End j → n < 1 → None ≡ naming (view_table t) v
     few-keyids j q h = whole-none (items-few (hex key_size) 1 max_keyids s e n g.ids _ g.walk j q h)
@@ -156,16 +161,16 @@ role-by keys v = go (field (bytes "keyids") v)
     go None = refl
     go (Some w) = array (items w)
 
-module _ (keys : List Key) (v : Json) (ok : Bool) (p : Naming) (e : keep ok p ≡ must (bytes "keyids") (naming keys) v) where
-  pub no_naming : ok ≡ false → None ≡ role_kept keys v
-  unfolding bind keep
-  no_naming q = rw (role-by keys v, ← e, q)
+module _ (keys : List Key) (v : Json) where
+  pub no_naming : None ≡ must (bytes "keyids") (naming keys) v → None ≡ role_kept keys v
+  unfolding bind
+  no_naming e = rw (role-by keys v, ← e)
 
-  module _ (q : ok ≡ true) where
+  module _ (p : Naming) (e : Some p ≡ must (bytes "keyids") (naming keys) v) where
     pub no-threshold : None ≡ must (bytes "threshold") (number 1 p.number) v → None ≡ role_kept keys v
-    unfolding bind keep
-    no-threshold f = rw (role-by keys v, ← e, q, ← f)
+    unfolding bind
+    no-threshold f = rw (role-by keys v, ← e, ← f)
 
     pub role-is : (n : ℕ) → Some n ≡ must (bytes "threshold") (number 1 p.number) v → Some (record { keyids = p.keyids; threshold = n }) ≡ role_kept keys v
-    unfolding bind keep
-    role-is n f = rw (role-by keys v, ← e, q, ← f)
+    unfolding bind
+    role-is n f = rw (role-by keys v, ← e, ← f)

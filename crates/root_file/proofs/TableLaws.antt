@@ -1,16 +1,20 @@
 -- The key table: its public values from a place on, and the table that the file's keys make.
-use mathlib.Core.Path.{◌≡◌, refl}
+use mathlib.Core.Path.{◌≡◌, refl, sym, ap, ◌∙◌}
 use Rattle.std.specs.declared.option.Option.{Option}
 use Rattle.std.specs.declared.option.Option.TheVariants.{None, Some}
 use Rattle.canonical_json.specs.Options.{bind}
-use mathlib.Core.Bool.{Bool, true, false, ◌&&◌}
+use mathlib.Core.Bool.{Bool, true, false, not, ◌&&◌, ◌||◌}
 use mathlib.Core.List.{List, [], ◌∷◌, map}
-use Prim.Native.Nat.{ℕ, zero, suc, ◌+◌, ◌<◌, ◌≤◌, min}
-use native.Mathlib.Nat.{sub-zero}
+use Prim.Native.Nat.{ℕ, zero, suc, ◌+◌, ◌-◌, ◌<◌, ◌≤◌, min}
+use native.Mathlib.Omega.{arith}
+use native.Mathlib.Numerals.{add-one}
 use lib.Dec.{leb}
+use lib.ListN.{length, get_or, take, drop, length-drop}
+use lib.Seq.{drop-cons, take_all}
+use Rattle.std.proofs.Math.ListN.{drop_of_length-le}
+use Rattle.std.specs.List.{list_any}
 use Rattle.base.specs.Bytes.{Bytes, same}
 use Rattle.base.specs.Window.{run}
-use Rattle.base.proofs.WindowLaws.{run-next, run_end}
 use Rattle.canonical_json.specs.Json.{Json, Members}
 use Rattle.canonical_json.specs.Fields.{members, count, keep}
 use Rattle.rules.specs.Limits.{max_keys}
@@ -22,7 +26,7 @@ use Rattle.records.specs.declared.Key.{Key}
 use Rattle.records.specs.View.{firsts, view_id, view_key, view_table, key_at, no_key}
 use Rattle.forms.proofs.ArrayLaws.{front, front-firsts}
 use Rattle.forms.specs.Each.{each_member}
-use Rattle.root_file.specs.View.{publics_from}
+use Rattle.root_file.specs.View.{publics}
 
 -- ## Public values
 
@@ -31,47 +35,46 @@ unfolding run
 map-run g f i zero = refl
 map-run g f i (suc n) = rw (map-run g f (i + 1) n)
 
-module _ (t : KeyTable) where
-  pub publics : map (λ (k : rules.Key). k.public) (view_table t) ≡ publics_from t 0
-  unfolding publics_from view_table firsts view_key
-  publics = rw (sub-zero) (map-run (λ (k : rules.Key). k.public) (λ i. view_key (key_at t i)) 0 (min t.count max_keys))
+publics-kept : (ks : List Key) → map (λ (k : rules.Key). k.public) (map view_key ks) ≡ publics ks
+unfolding publics view_key
+publics-kept [] = refl
+publics-kept (k ∷ ks) = ap (λ (ps : List Bytes). view_id k.public ∷ ps) (publics-kept ks)
 
-  module _ (i : ℕ) where
-    publics-next : i < min t.count max_keys → publics_from t i ≡ view_id (key_at t i).public ∷ publics_from t (i + 1)
-    unfolding publics_from
-    publics-next h = run-next (λ j. view_id (key_at t j).public) i (min t.count max_keys) h
+pub publics-of : (t : KeyTable) (ks : List Key) → map view_key ks ≡ view_table t → map (λ (k : rules.Key). k.public) (view_table t) ≡ publics ks
+publics-of t ks e = ap (map (λ (k : rules.Key). k.public)) (sym e) ∙ publics-kept ks
 
-    publics-end : min t.count max_keys ≤ i → publics_from t i ≡ []
-    unfolding publics_from
-    publics-end h = run_end (λ j. view_id (key_at t j).public) i (min t.count max_keys) h
+-- is x among them?
+pub public-any : (x : Bytes) (ks : List Key) → list_any (λ k. same x (view_id k.public)) ks ≡ is_in x (publics ks)
+unfolding is_in publics
+public-any x [] = refl
+public-any x (k ∷ ks) = ap (λ b. same x (view_id k.public) || b) (public-any x ks)
 
-    -- is x among them?
-    module _ (x : Bytes) where
-      pub public-hit : i < min t.count max_keys → true ≡ same x (view_id (key_at t i).public) → true ≡ is_in x (publics_from t i)
-      unfolding is_in
-      public-hit h e = rw (publics-next h, ← e)
+-- do those from place i on differ?
+module _ (ks : List Key) (i : ℕ) (h : i < length ks) where
+  -- those after it
+  after : List Key
+  after = take (length ks - (i + 1)) (drop (i + 1) ks)
 
-      pub public-skip : i < min t.count max_keys → false ≡ same x (view_id (key_at t i).public) → is_in x (publics_from t i) ≡ is_in x (publics_from t (i + 1))
-      unfolding is_in
-      public-skip h e = rw (publics-next h, ← e)
+  after-is : after ≡ drop (i + 1) ks
+  unfolding after
+  after-is = take_all _ _ (omega (arith, length-drop (i + 1) ks))
 
-      pub public-end : min t.count max_keys ≤ i → false ≡ is_in x (publics_from t i)
-      unfolding is_in
-      public-end h = rw (publics-end h)
+  step : different (publics (drop i ks)) ≡ not (is_in (view_id (get_or ks i no_key).public) (publics after)) && different (publics (drop (i + 1) ks))
+  unfolding different publics
+  step = rw (after-is, add-one, drop-cons ks i no_key)
 
-    -- do they differ?
-    pub differ-not : i < min t.count max_keys → true ≡ is_in (view_id (key_at t i).public) (publics_from t (i + 1)) → false ≡ different (publics_from t i)
-    unfolding different
-    differ-not h e = rw (publics-next h, ← e)
+  pub differ-not : true ≡ is_in (view_id (get_or ks i no_key).public) (publics (take (length ks - (i + 1)) (drop (i + 1) ks))) → false ≡ different (publics (drop i ks))
+  unfolding after
+  differ-not e = rw (step, ← e)
 
-    pub differ-next : i < min t.count max_keys → false ≡ is_in (view_id (key_at t i).public) (publics_from t (i + 1))
-        → different (publics_from t i) ≡ different (publics_from t (i + 1))
-    unfolding different
-    differ-next h e = rw (publics-next h, ← e)
+  pub differ-next : false ≡ is_in (view_id (get_or ks i no_key).public) (publics (take (length ks - (i + 1)) (drop (i + 1) ks)))
+      → different (publics (drop i ks)) ≡ different (publics (drop (i + 1) ks))
+  unfolding after
+  differ-next e = rw (step, ← e)
 
-    pub differ-end : min t.count max_keys ≤ i → true ≡ different (publics_from t i)
-    unfolding different
-    differ-end h = rw (publics-end h)
+pub differ-end : (ks : List Key) (i : ℕ) → length ks ≤ i → true ≡ different (publics (drop i ks))
+unfolding different publics
+differ-end ks i h = rw (drop_of_length-le ks h)
 
 -- ## The file's keys
 
@@ -96,11 +99,16 @@ keys-by v = go (members v)
     go None = refl
     go (Some ms) = kept (keep (leb 1 (count ms) && leb (count ms) max_keys) ms)
 
-module _ (v : Json) (ok : Bool) (ks : List rules.Key) (e : keep ok ks ≡ each_member 1 max_keys key v) where
-  pub no_table_lem : ok ≡ false → None ≡ keys v
-  unfolding bind keep
-  no_table_lem q = rw (keys-by v, ← e, q)
+module _ (v : Json) where
+  pub no-table : None ≡ each_member 1 max_keys key v → None ≡ keys v
+  unfolding bind
+  no-table e = rw (keys-by v, ← e)
 
-  pub table_is : ok ≡ true → (b : Bool) → b ≡ different (map (λ (k : rules.Key). k.public) ks) → keep b ks ≡ keys v
-  unfolding bind keep
-  table_is q b d = rw (keys-by v, ← e, q, d)
+  module _ (ks : List rules.Key) (e : Some ks ≡ each_member 1 max_keys key v) where
+    pub same-publics : false ≡ different (map (λ (k : rules.Key). k.public) ks) → None ≡ keys v
+    unfolding bind keep
+    same-publics d = rw (keys-by v, ← e, ← d)
+
+    pub table_is : true ≡ different (map (λ (k : rules.Key). k.public) ks) → Some ks ≡ keys v
+    unfolding bind keep
+    table_is d = rw (keys-by v, ← e, ← d)

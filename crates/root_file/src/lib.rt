@@ -1,222 +1,116 @@
 // A root file, read (01, "Forms" and refusals 1 to 4, and A1's 16): the key table and the four roles at a place of a canonical text, and the whole file.
 #![tactic(auto)]
 
-ghost use Rattle.std.specs.Prelude.{◌≡◌, false, drop};
+ghost use Rattle.std.specs.Prelude.{◌≡◌, drop, map};
+ghost use Rattle.std.specs.Option.{option_map, IfSome};
 ghost use Rattle.base.specs.Bytes.{bytes, same};
 ghost use Rattle.canonical_json.specs.Read.{raw};
 ghost use Rattle.canonical_json.specs.Fields.{members, keep};
-ghost use Rattle.lookup.specs.Place.{Takes, Tests, PlaceAfter, EndsAt, KnownEnd, FoundEnd};
+ghost use Rattle.lookup.specs.Place.{Takes, Tests, PlaceAfter, EndsAt, KnownEnd, Reads};
 ghost use Rattle.rules.specs.Limits.{max_keys, key_size};
 ghost use Rattle.rules.specs.Take.{must, hex};
 ghost use Rattle.rules.specs.Forms.{is_in, different, key as key_form, keys as keys_form, keyid_of, own_table};
 ghost use Rattle.rules.specs.State.{root_in};
-ghost use Rattle.records.specs.View.{view_id, view_table};
+ghost use Rattle.records.specs.View.{view_id, view_key, view_table, view_role, view_root};
 ghost use Rattle.forms.specs.Each.{each_member};
 ghost use Rattle.forms.specs.Member.{TakesMust};
-ghost use Rattle.forms.specs.View.{view_id_at};
+ghost use Rattle.envelope.specs.Open.{view_read};
 ghost use Rattle.root_file.specs.Keyids.{TestsTable};
 ghost use Rattle.root_file.specs.Body.{naming, role_kept, roles_kept, root_kept, is_truth};
-ghost use Rattle.root_file.specs.View.{publics_from, view_key_at, view_keys_at, view_naming_at, view_role_at, view_roles_at, view_root_at, view_root_read};
+ghost use Rattle.root_file.specs.View.{publics, view_naming, view_roles, view_body, RolesEnd};
 
-use date::Time;
-use forms::IdAt;
-use lookup::{Element, Found, Member, Number, Truth};
-use records::{Entries, Id, Key, KeyTable, Role, Root};
+use envelope::{Fault, Signed};
+use lookup::{Element, Extent, Member, Spanned};
+use records::{Id, Key, KeyTable, Role, Root};
 
 // ---- Keys
 
-// A key, and where it ends.
-#[derive(Clone, Copy)]
-pub struct KeyAt {
-    pub ok: bool,
-    pub key: Key,
-    pub end: Option<usize>,
-}
-
-fn no_key() -> KeyAt
-    ensures { (result.ok ≡ false) × (result.end ≡ None) }
-{
-    let zeros = Id { bytes: [0u8; 32] };
-    KeyAt {
-        ok: false,
-        key: Key {
-            keyid: zeros,
-            public: zeros,
-        },
-        end: None,
-    }
-}
-
 // "a keyval whose public is 64 lower-case hex".
-fn public_field(s: &[u8], found: Option<usize>) -> IdAt
-    ensures { TakesMust s.now found (must (bytes "public") (hex key_size)) (view_id_at result) }
+fn public_field(s: &[u8], found: Option<usize>) -> Option<Id>
+    ensures { TakesMust s.now found (must (bytes "public") (hex key_size)) (option_map view_id result) }
 {
-    match found {
-        None => {
-            return IdAt {
-                ok: false,
-                id: Id { bytes: [0u8; 32] },
-            };
-        }
-        Some(x) => {
-            return forms::id_field(s, lookup::find_member(s, x, b"public"));
-        }
-    }
+    forms::id_field(s, lookup::find_member(s, found?, b"public"))
 }
 
 // The key of a member: its name begins at `name`, just past the opening quote, and its value at `value`.
-pub fn key_at(s: &[u8], name: usize, value: usize) -> KeyAt
-    ensures { Takes s.now value (key_form (raw (drop name s.now))) (view_key_at result) × KnownEnd s.now value result.end }
+pub fn key_at(s: &[u8], name: usize, value: usize) -> Option<Spanned<Key>>
+    ensures { Reads view_key s.now value (key_form (raw (drop name s.now))) result }
 {
-    let id = forms::id_in(s, name);
-    if !id.ok {
-        return no_key();
-    }
+    let keyid = forms::id_in(s, name)?;
     let m = lookup::find_members(s, value, b"keytype", b"scheme", b"keyval", b"");
-    let first = m.first;
-    let second = m.second;
-    let third = m.third;
-    let end = m.end;
-    if !forms::word_field(s, first, b"ed25519") {
-        return no_key();
+    if !forms::word_field(s, m.first, b"ed25519") {
+        return None;
     }
-    if !forms::word_field(s, second, b"ed25519") {
-        return no_key();
+    if !forms::word_field(s, m.second, b"ed25519") {
+        return None;
     }
-    let last = public_field(s, third);
-    let keyid = id.id;
-    let public = last.id;
-    KeyAt {
-        ok: last.ok,
-        key: Key { keyid, public },
-        end,
-    }
+    let public = public_field(s, m.third)?;
+    Some(Spanned {
+        value: Key { keyid, public },
+        end: m.end,
+    })
 }
 
 // ---- The key table
 
-// The key table, and where it ends.
-#[derive(Clone, Copy)]
-pub struct KeysAt {
-    pub ok: bool,
-    pub table: KeyTable,
-    pub end: Option<usize>,
-}
-
-fn no_keys() -> KeysAt
-    ensures { (result.ok ≡ false) × (result.end ≡ None) }
-{
-    let blank = no_key();
-    let key = blank.key;
-    KeysAt {
-        ok: false,
-        table: KeyTable {
-            count: 0,
-            keys: [key; records::MAX_KEYS],
-        },
-        end: None,
-    }
-}
-
 // 1 to 16 members, each a key.
-fn table_at(s: &[u8], at: usize) -> KeysAt
-    ensures { Takes s.now at (each_member 1 max_keys key_form) (view_keys_at result) × KnownEnd s.now at result.end }
+fn table_at(s: &[u8], at: usize) -> Option<Spanned<KeyTable>>
+    ensures { Reads view_table s.now at (each_member 1 max_keys key_form) result }
 {
-    let blank = no_key();
-    let zeros = blank.key;
-    let mut keys = [zeros; records::MAX_KEYS];
-    let mut n: usize = 0;
+    let blank = Id { bytes: [0; 32] };
+    let mut keys = [Key {
+        keyid: blank,
+        public: blank,
+    }; records::MAX_KEYS];
+    let mut n = 0;
     let mut m = lookup::first_member(s, at);
-    loop {
-        match m {
-            Member::At { name, value } => {
-                if records::MAX_KEYS <= n {
-                    return no_keys();
-                }
-                let read = key_at(s, name, value);
-                if !read.ok {
-                    return no_keys();
-                }
-                let key = read.key;
-                keys[n] = key;
-                n += 1;
-                let end = read.end;
-                m = lookup::next_member_by(s, value, end);
-            }
-            Member::NoObject => {
-                return no_keys();
-            }
-            Member::End(e) => {
-                if n < 1 {
-                    return no_keys();
-                }
-                return KeysAt {
-                    ok: true,
-                    table: KeyTable { count: n, keys },
-                    end: Some(e),
-                };
-            }
+    while let Member::At { name, value } = m {
+        if records::MAX_KEYS <= n {
+            return None;
         }
+        let key = key_at(s, name, value)?;
+        keys[n] = key.value;
+        n += 1;
+        m = lookup::next_member_by(s, value, key.end);
     }
+    let Member::End(end) = m else { return None };
+    if n < 1 {
+        return None;
+    }
+    Some(Spanned {
+        value: KeyTable { count: n, keys },
+        end: Some(end),
+    })
 }
 
-// Whether a key from place i on has that public value.
-fn has_public(table: KeyTable, public: Id, i: usize) -> bool
-    ensures { result ≡ is_in (view_id public) (publics_from table i) }
+// Whether one of the keys has that public value.
+fn has_public(keys: &[Key], public: Id) -> bool
+    ensures { result ≡ is_in (view_id public) (publics keys.now) }
 {
-    let n = records::at_most(table.count, records::MAX_KEYS);
-    let mut j = i;
-    while j < n {
-        let key = table.keys[j];
-        if keys::same_id(public, key.public) {
-            return true;
-        }
-        j += 1;
-    }
-    false
+    keys.iter().any(|key| keys::same_id(public, key.public))
 }
 
 // "no two keyids of one file may have the same public value".
-fn publics_differ(table: KeyTable) -> bool
-    ensures { result ≡ different (publics_from table 0) }
+fn publics_differ(keys: &[Key]) -> bool
+    ensures { result ≡ different (publics keys.now) }
 {
-    let n = records::at_most(table.count, records::MAX_KEYS);
-    let mut i = 0;
-    while i < n {
-        let key = table.keys[i];
-        if has_public(table, key.public, i + 1) {
+    for (i, key) in keys.iter().enumerate() {
+        if has_public(&keys[i + 1..], key.public) {
             return false;
         }
-        i += 1;
     }
     true
 }
 
 // "keys, 1 to 16".
-pub fn keys_at(s: &[u8], at: usize) -> KeysAt
-    ensures { Takes s.now at keys_form (view_keys_at result) × KnownEnd s.now at result.end }
+pub fn keys_at(s: &[u8], at: usize) -> Option<Spanned<KeyTable>>
+    ensures { Reads view_table s.now at keys_form result }
 {
-    let read = table_at(s, at);
-    if !read.ok {
-        return no_keys();
+    let table = table_at(s, at)?;
+    if !publics_differ(table.value.all()) {
+        return None;
     }
-    let table = read.table;
-    let end = read.end;
-    let ok = publics_differ(table);
-    KeysAt { ok, table, end }
-}
-
-fn keys_field(s: &[u8], found: Option<usize>) -> KeysAt
-    ensures { TakesMust s.now found keys_form (view_keys_at result) × FoundEnd s.now found result.end }
-{
-    match found {
-        None => {
-            return no_keys();
-        }
-        Some(x) => {
-            return keys_at(s, x);
-        }
-    }
+    Some(table)
 }
 
 // Whether the member whose name begins at `name` and whose value stands from `value` to `end` has its key's keyid: "the hex digest of the canonical
@@ -225,15 +119,8 @@ fn has_own_keyid(s: &[u8], name: usize, value: usize, end: Option<usize>) -> boo
     requires { PlaceAfter s.now value end }
     ensures { EndsAt s.now value end → Tests s.now value (λ v. same (raw (drop name s.now)) (keyid_of v)) result }
 {
-    match end {
-        None => {
-            return false;
-        }
-        Some(e) => {
-            let keyid = sha256::hex_digest(&s[value..e]);
-            return lookup::text_is(s, name, &keyid);
-        }
-    }
+    let Some(e) = end else { return false };
+    lookup::text_is(s, name, &sha256::hex_digest(&s[value..e]))
 }
 
 // Whether every keyid of the key table is its key's, "unknown members included".
@@ -241,254 +128,113 @@ pub fn has_own_keyids(s: &[u8], at: usize) -> bool
     ensures { Tests s.now at (λ v. own_table (members v)) result }
 {
     let mut m = lookup::first_member(s, at);
-    loop {
-        match m {
-            Member::At { name, value } => {
-                let end = lookup::value_end(s, value);
-                if !has_own_keyid(s, name, value, end) {
-                    return false;
-                }
-                m = lookup::next_member_by(s, value, end);
-            }
-            Member::NoObject => {
-                return true;
-            }
-            Member::End(_) => {
-                return true;
-            }
+    while let Member::At { name, value } = m {
+        let end = lookup::value_end(s, value);
+        if !has_own_keyid(s, name, value, end) {
+            return false;
         }
+        m = lookup::next_member_by(s, value, end);
     }
+    true
 }
 
 fn keyids_field(s: &[u8], found: Option<usize>) -> bool
     ensures { TestsTable s.now found result }
 {
-    match found {
-        None => {
-            return true;
-        }
-        Some(x) => {
-            return has_own_keyids(s, x);
-        }
-    }
+    found.is_none_or(|at| has_own_keyids(s, at))
 }
 
 // ---- Roles
 
-// A role's keyids as bits over the key table, how many there are, and where they end.
+// A role's keyids as bits over the key table, and how many there are.
 #[derive(Clone, Copy)]
-struct NamingAt {
-    ok: bool,
+struct Naming {
     keys: u16,
     count: usize,
-    end: Option<usize>,
-}
-
-fn no_naming() -> NamingAt
-    ensures { (result.ok ≡ false) × (result.end ≡ None) }
-{
-    NamingAt {
-        ok: false,
-        keys: 0,
-        count: 0,
-        end: None,
-    }
 }
 
 // 1 to 16 keyids, each at some place of the key table and none at a place that is marked already.
-fn naming_at(s: &[u8], at: usize, table: KeyTable) -> NamingAt
-    ensures { Takes s.now at (naming (view_table table)) (view_naming_at table result) × KnownEnd s.now at result.end }
+fn naming_at(s: &[u8], at: usize, table: KeyTable) -> Option<Spanned<Naming>>
+    ensures { Reads (view_naming table) s.now at (naming (view_table table)) result }
 {
     let mut keys: u16 = 0;
-    let mut n: usize = 0;
+    let mut n = 0;
     let mut e = lookup::first_element(s, at);
-    loop {
-        match e {
-            Element::At(i) => {
-                if records::MAX_KEYIDS <= n {
-                    return no_naming();
-                }
-                let read = forms::id_at(s, i);
-                if !read.ok {
-                    return no_naming();
-                }
-                let places = keys::places_of(table, read.id);
-                if places == 0 {
-                    return no_naming();
-                }
-                if keys & places != 0 {
-                    return no_naming();
-                }
-                keys = keys | places;
-                n += 1;
-                e = lookup::next_element(s, i);
-            }
-            Element::NoArray => {
-                return no_naming();
-            }
-            Element::End(past) => {
-                if n < 1 {
-                    return no_naming();
-                }
-                return NamingAt {
-                    ok: true,
-                    keys,
-                    count: n,
-                    end: Some(past),
-                };
-            }
+    while let Element::At(i) = e {
+        if records::MAX_KEYIDS <= n {
+            return None;
         }
-    }
-}
-
-// "keyids".
-fn naming_field(s: &[u8], found: Option<usize>, table: KeyTable) -> NamingAt
-    ensures { TakesMust s.now found (naming (view_table table)) (view_naming_at table result) × FoundEnd s.now found result.end }
-{
-    match found {
-        None => {
-            return no_naming();
+        let places = keys::places_of(table, forms::id_at(s, i)?);
+        if places == 0 {
+            return None;
         }
-        Some(x) => {
-            return naming_at(s, x, table);
+        if keys & places != 0 {
+            return None;
         }
+        keys |= places;
+        n += 1;
+        e = lookup::next_element(s, i);
     }
-}
-
-#[derive(Clone, Copy)]
-pub struct RoleAt {
-    pub ok: bool,
-    pub role: Role,
-}
-
-fn no_role() -> RoleAt
-    ensures { result.ok ≡ false }
-{
-    RoleAt {
-        ok: false,
-        role: Role {
-            keys: 0,
-            threshold: 0,
-        },
+    let Element::End(end) = e else { return None };
+    if n < 1 {
+        return None;
     }
+    Some(Spanned {
+        value: Naming { keys, count: n },
+        end: Some(end),
+    })
 }
 
 // "1 to 16 different keyids from the key table and a threshold from 1 to the number of those keyids".
-pub fn role_at(s: &[u8], at: usize, table: KeyTable) -> RoleAt
-    ensures { Takes s.now at (role_kept (view_table table)) (view_role_at table result) }
+pub fn role_at(s: &[u8], at: usize, table: KeyTable) -> Option<Role>
+    ensures { Takes s.now at (role_kept (view_table table)) (option_map (view_role table) result) }
 {
-    let found = lookup::find_member(s, at, b"keyids");
-    let named = naming_field(s, found, table);
-    if !named.ok {
-        return no_role();
-    }
-    let end = named.end;
-    let second = lookup::find_member_by(s, at, b"threshold", lookup::extent_of(found, end));
-    match forms::number_field(s, second, 1, named.count as u64) {
-        None => {
-            return no_role();
-        }
-        Some(threshold) => {
-            return RoleAt {
-                ok: true,
-                role: Role {
-                    keys: named.keys,
-                    threshold,
-                },
-            };
-        }
-    }
-}
-
-fn role_field(s: &[u8], found: Option<usize>, table: KeyTable) -> RoleAt
-    ensures { TakesMust s.now found (role_kept (view_table table)) (view_role_at table result) }
-{
-    match found {
-        None => {
-            return no_role();
-        }
-        Some(x) => {
-            return role_at(s, x, table);
-        }
-    }
-}
-
-// The roles, and where they end.
-#[derive(Clone, Copy)]
-struct RolesAt {
-    ok: bool,
-    root: Role,
-    timestamp: Role,
-    snapshot: Role,
-    targets: Role,
-    end: Option<usize>,
-}
-
-fn no_roles() -> RolesAt
-    ensures { (result.ok ≡ false) × (result.end ≡ None) }
-{
-    let role = Role {
-        keys: 0,
-        threshold: 0,
+    let keyids = lookup::find_member(s, at, b"keyids")?;
+    let named = naming_at(s, keyids, table)?;
+    let known = Extent {
+        at: keyids,
+        end: named.end,
     };
-    RolesAt {
-        ok: false,
-        root: role,
-        timestamp: role,
-        snapshot: role,
-        targets: role,
-        end: None,
-    }
+    let found = lookup::find_member_by(s, at, b"threshold", known);
+    let threshold = forms::number_field(s, found, 1, named.value.count as u64)?;
+    Some(Role {
+        keys: named.value.keys,
+        threshold,
+    })
+}
+
+fn role_field(s: &[u8], found: Option<usize>, table: KeyTable) -> Option<Role>
+    ensures { TakesMust s.now found (role_kept (view_table table)) (option_map (view_role table) result) }
+{
+    role_at(s, found?, table)
+}
+
+#[derive(Clone, Copy)]
+pub struct Roles {
+    pub root: Role,
+    pub timestamp: Role,
+    pub snapshot: Role,
+    pub targets: Role,
 }
 
 // "roles with root, timestamp, snapshot and targets"; "Other role names are passed over".
-fn roles_at(s: &[u8], at: usize, table: KeyTable) -> RolesAt
-    ensures { Takes s.now at (roles_kept (view_table table)) (view_roles_at table result) × KnownEnd s.now at result.end }
+fn roles_at(s: &[u8], at: usize, table: KeyTable) -> Option<Spanned<Roles>>
+    ensures { Reads (view_roles table) s.now at (roles_kept (view_table table)) result }
 {
     let m = lookup::find_members(s, at, b"root", b"timestamp", b"snapshot", b"targets");
-    let first = m.first;
-    let second = m.second;
-    let third = m.third;
-    let fourth = m.fourth;
-    let end = m.end;
-    let a = role_field(s, first, table);
-    if !a.ok {
-        return no_roles();
-    }
-    let b = role_field(s, second, table);
-    if !b.ok {
-        return no_roles();
-    }
-    let c = role_field(s, third, table);
-    if !c.ok {
-        return no_roles();
-    }
-    let d = role_field(s, fourth, table);
-    let root = a.role;
-    let timestamp = b.role;
-    let snapshot = c.role;
-    let targets = d.role;
-    RolesAt {
-        ok: d.ok,
-        root,
-        timestamp,
-        snapshot,
-        targets,
-        end,
-    }
-}
-
-fn roles_field(s: &[u8], found: Option<usize>, table: KeyTable) -> RolesAt
-    ensures { TakesMust s.now found (roles_kept (view_table table)) (view_roles_at table result) × FoundEnd s.now found result.end }
-{
-    match found {
-        None => {
-            return no_roles();
-        }
-        Some(x) => {
-            return roles_at(s, x, table);
-        }
-    }
+    let root = role_field(s, m.first, table)?;
+    let timestamp = role_field(s, m.second, table)?;
+    let snapshot = role_field(s, m.third, table)?;
+    let targets = role_field(s, m.fourth, table)?;
+    Some(Spanned {
+        value: Roles {
+            root,
+            timestamp,
+            snapshot,
+            targets,
+        },
+        end: m.end,
+    })
 }
 
 // ---- The root
@@ -497,161 +243,72 @@ fn roles_field(s: &[u8], found: Option<usize>, table: KeyTable) -> RolesAt
 fn has_snapshot_rule(s: &[u8], found: Option<usize>) -> bool
     ensures { TakesMust s.now found is_truth (keep result tt) }
 {
-    match found {
-        None => {
-            return false;
-        }
-        Some(x) => match lookup::truth_at(s, x) {
-            None => {
-                return false;
-            }
-            Some(_) => {
-                return true;
-            }
-        },
-    }
+    found.is_some_and(|at| lookup::truth_at(s, at).is_some())
 }
 
-// A root's body, and where its roles stand and end.
+// What is kept of a root's body, and where its roles stand and end.
 #[derive(Clone, Copy)]
-pub struct RootAt {
-    pub ok: bool,
+pub struct Body {
     pub table: KeyTable,
-    pub root: Role,
-    pub timestamp: Role,
-    pub snapshot: Role,
-    pub targets: Role,
-    pub roles: Option<usize>,
-    pub end: Option<usize>,
+    pub roles: Roles,
+    pub extent: Extent,
 }
 
-fn no_root() -> RootAt
-    ensures { (result.ok ≡ false) × (result.roles ≡ None) }
-{
-    let keys = no_keys();
-    let table = keys.table;
-    let role = Role {
-        keys: 0,
-        threshold: 0,
-    };
-    RootAt {
-        ok: false,
-        table,
-        root: role,
-        timestamp: role,
-        snapshot: role,
-        targets: role,
-        roles: None,
-        end: None,
-    }
-}
-
-// What is kept of a root's body.
-pub fn root_at(s: &[u8], at: usize) -> RootAt
-    ensures { Takes s.now at root_kept (view_root_at result) × FoundEnd s.now result.roles result.end }
+pub fn root_at(s: &[u8], at: usize) -> Option<Body>
+    ensures means { Takes s.now at root_kept (option_map view_body result) }
+    ensures end { IfSome result (RolesEnd s.now) }
 {
     if !has_snapshot_rule(s, lookup::find_member(s, at, b"consistent_snapshot")) {
-        return no_root();
+        return None;
     }
-    let first = lookup::find_member(s, at, b"keys");
-    let keys = keys_field(s, first);
-    if !keys.ok {
-        return no_root();
+    let first = lookup::find_member(s, at, b"keys")?;
+    let keys = keys_at(s, first)?;
+    let known = Extent {
+        at: first,
+        end: keys.end,
+    };
+    let second = lookup::find_member_by(s, at, b"roles", known)?;
+    let roles = roles_at(s, second, keys.value)?;
+    Some(Body {
+        table: keys.value,
+        roles: roles.value,
+        extent: Extent {
+            at: second,
+            end: roles.end,
+        },
+    })
+}
+
+// 3 before 16 and 16 before 4: the keyids and the spec_version are asked for when everything else was read.
+pub fn read_root(file: &[u8]) -> Result<Signed<Root>, Fault>
+    ensures { view_read view_root result ≡ root_in file.now }
+{
+    let opened = envelope::open_envelope(file)?;
+    let start = opened.start;
+    let body = root_at(file, start).ok_or(Fault::BadForm)?;
+    let header = envelope::header_at(file, start, b"root", body.extent).ok_or(Fault::BadForm)?;
+    if !keyids_field(file, lookup::find_member(file, start, b"keys")) {
+        return Err(Fault::OtherKeyid);
     }
-    let table = keys.table;
-    let keys_end = keys.end;
-    let second = lookup::find_member_by(s, at, b"roles", lookup::extent_of(first, keys_end));
-    let read = roles_field(s, second, table);
-    let root = read.root;
-    let timestamp = read.timestamp;
-    let snapshot = read.snapshot;
-    let targets = read.targets;
-    let end = read.end;
-    RootAt {
-        ok: read.ok,
-        table,
+    if !header.known {
+        return Err(Fault::OtherSpec);
+    }
+    let Roles {
         root,
         timestamp,
         snapshot,
         targets,
-        roles: second,
-        end,
-    }
-}
-
-// What is kept of a root file, with the keyids of its entries; or the refusal.
-#[derive(Clone, Copy)]
-pub struct RootRead {
-    pub answer: u8,
-    pub root: Root,
-    pub entries: Entries,
-}
-
-fn refused(answer: u8) -> RootRead
-    ensures { result.answer ≡ answer }
-{
-    let blank = no_root();
-    let table = blank.table;
-    let role = blank.root;
-    let entries = envelope::no_ids();
-    RootRead {
-        answer,
-        root: Root {
-            version: 0,
-            expires: Time { seconds: 0 },
-            table,
-            root: role,
-            timestamp: role,
-            snapshot: role,
-            targets: role,
-        },
-        entries,
-    }
-}
-
-// 3 before 16 and 16 before 4: the keyids and the spec_version are asked for when everything else was read.
-pub fn read_root(file: &[u8]) -> RootRead
-    ensures { view_root_read result ≡ Some (root_in file.now) }
-{
-    let opened = envelope::open_envelope(file);
-    if opened.answer != 0 {
-        return refused(opened.answer);
-    }
-    let start = opened.start;
-    let body = root_at(file, start);
-    if !body.ok {
-        return refused(envelope::BAD_FORM);
-    }
-    let roles = body.roles;
-    let end = body.end;
-    let header = envelope::header_at(file, start, b"root", lookup::extent_of(roles, end));
-    if !header.ok {
-        return refused(envelope::BAD_FORM);
-    }
-    if !keyids_field(file, lookup::find_member(file, start, b"keys")) {
-        return refused(envelope::OTHER_KEYID);
-    }
-    if !header.known {
-        return refused(envelope::OTHER_SPEC);
-    }
-    let expires = header.expires;
-    let table = body.table;
-    let root = body.root;
-    let timestamp = body.timestamp;
-    let snapshot = body.snapshot;
-    let targets = body.targets;
-    let entries = opened.entries;
-    RootRead {
-        answer: 0,
-        root: Root {
+    } = body.roles;
+    Ok(Signed {
+        signed: Root {
             version: header.version,
-            expires,
-            table,
+            expires: header.expires,
+            table: body.table,
             root,
             timestamp,
             snapshot,
             targets,
         },
-        entries,
-    }
+        entries: opened.entries,
+    })
 }

@@ -1,16 +1,16 @@
-use native.Mathlib.Omega.{arith}
-use mathlib.Core.Path.{sym, ◌∙◌}
-use Rattle.records.specs.View.{key_at}
-use Rattle.root_file.proofs.TableLaws.{public-hit, public-skip, public-end}
+-- `has_public`: the public values, one after the other.
+use Rattle.std.proofs.Common.{rules, tests}
+use Rattle.std.proofs.lemmas.Iterator.{YieldsList-from_slice}
+use Rattle.std.proofs.lemmas.Iterator.Search.{any_from_yields_List}
+use Rattle.base.specs.Bytes.{same}
+use Rattle.records.specs.declared.Key.{Key}
+use Rattle.records.specs.View.{view_id}
+use Rattle.root_file.proofs.TableLaws.{public-any}
 use Rattle.root_file.proofs.has_public.Goals as goal
 
-pub returns-then-same_id : goal.returns-then-same_id
-unfolding key_at
-returns-then-same_id c = let l = c.loop-j in public-hit _ l.j _ (omega arith) (sym c.if-same_id.true ∙ c.same_id.ensures) ∙ sym l.invariant
-
-pub loop-j-preserved : goal.loop-j-preserved
-unfolding key_at
-loop-j-preserved c = let l = c.loop-j in l.invariant ∙ public-skip _ l.j _ (omega arith) (sym c.if-same_id.false ∙ c.same_id.ensures)
-
 pub returns : goal.returns
-returns c = let l = c.loop-j in public-end _ l.j _ (omega arith) ∙ sym l.invariant
+returns c =
+    let x = view_id c.args.public in
+    let found =
+    any_from_yields_List (λ (k : Key). same x (view_id k.public)) c.any.new.self _ c.any.result c.any.ensures.ran (YieldsList-from_slice c.args.keys.now cc) (λ k b q h. search (rules, tests)) in
+    rw (← public-any x c.args.keys.now) found

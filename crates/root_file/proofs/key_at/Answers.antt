@@ -1,42 +1,45 @@
 -- `key_at` meets its contract.
-use borrow.Author.Tests.{not-true, not-false}
-use Rattle.lookup.proofs.StandsLaws.{known-none}
+use Rattle.canonical_json.specs.Fields.{keep}
 use Rattle.records.specs.View.{view_key}
-use Rattle.forms.specs.View.{view_id_at}
-use Rattle.root_file.specs.View.{view_key_at}
-use Rattle.root_file.proofs.KeepLaws.{nothing}
-use Rattle.root_file.proofs.KeyLaws.{no-keyid, no_keytype, no_scheme, key-is}
+use Rattle.forms.proofs.StepLaws.{reads-none}
+use Rattle.root_file.proofs.KeyLaws.{no-keyid, no_keytype, no_scheme, no-public, key-is}
 use Rattle.root_file.proofs.key_at.Goals as goal
 
-pub returns-then-not-id : goal.returns-then-not-id
-unfolding view_key_at view_key view_id_at
-returns-then-not-id c = (λ v h. nothing _ c.no_key.ensures.0 (no-keyid _ v _ _ c.id_in-id.ensures (not-true _ c.if-not-id.true)), known-none _ _ _ c.no_key.ensures.1)
+pub returns-in_err-keyid : goal.returns-in_err-keyid
+returns-in_err-keyid c = reads-none _ _ _ _ _ c.from_residual.ensures (λ v h. no-keyid _ v c.in_err-keyid.ensures)
 
 pub returns-then-not-word_field : goal.returns-then-not-word_field
-unfolding view_key_at view_key view_id_at
+unfolding keep
 returns-then-not-word_field c =
-    let m = c.find_members-m.ensures in (
-      λ v h. nothing _ c.no_key-then-not-word_field.ensures.0 (no_keytype _ v _ _ c.id_in-id.ensures (not-false _ c.if-not-id.false) _ (c.word_field.ensures _ _ m.first.means v h) c.if-not-word_field.true),
-      known-none _ _ _ c.no_key-then-not-word_field.ensures.1,
-    )
+    let m = c.find_members-m.ensures in
+    record { means = λ v h. no_keytype _ v _ c.in_ok-keyid.ensures (c.if-not-word_field.ensures _ _ m.first.means v h); end = tt }
 
 pub returns-then-not-word_field-2 : goal.returns-then-not-word_field-2
-unfolding view_key_at view_key view_id_at
+unfolding keep
 returns-then-not-word_field-2 c =
-    let m = c.find_members-m.ensures in (
+    let m = c.find_members-m.ensures in
+    record {
+      means = λ v h. no_scheme _ v _ c.in_ok-keyid.ensures (c.if-not-word_field.ensures _ _ m.first.means v h) (c.if-not-word_field-2.ensures _ _ m.second.means v h);
+      end = tt;
+    }
+
+pub returns-in_err-public : goal.returns-in_err-public
+unfolding keep
+returns-in_err-public c =
+    let m = c.find_members-m.ensures in
+    reads-none _ _ _ _ _ c.from_residual-in_err-public.ensures (
       λ v h.
-          nothing _ c.no_key-then-not-word_field-2.ensures.0
-          (no_scheme _ v _ _ c.id_in-id.ensures (not-false _ c.if-not-id.false) _ (c.word_field.ensures _ _ m.first.means v h) c.if-not-word_field.false
-          _ (c.word_field-2.ensures _ _ m.second.means v h) c.if-not-word_field-2.true),
-      known-none _ _ _ c.no_key-then-not-word_field-2.ensures.1,
+          no-public _ v _ c.in_ok-keyid.ensures (c.if-not-word_field.ensures _ _ m.first.means v h) (c.if-not-word_field-2.ensures _ _ m.second.means v h)
+          (c.in_err-public.ensures _ _ m.third.means v h)
     )
 
 pub returns : goal.returns
-unfolding view_key_at view_key view_id_at
+unfolding keep view_key
 returns c =
-    let m = c.find_members-m.ensures in (
-      λ v h.
-          key-is _ v _ _ c.id_in-id.ensures (not-false _ c.if-not-id.false) _ (c.word_field.ensures _ _ m.first.means v h) c.if-not-word_field.false
-          _ (c.word_field-2.ensures _ _ m.second.means v h) c.if-not-word_field-2.false _ _ (c.public_field-last.ensures _ _ m.third.means v h),
-      m.end,
-    )
+    let m = c.find_members-m.ensures in
+    record {
+      means = λ v h.
+          key-is _ v _ c.in_ok-keyid.ensures (c.if-not-word_field.ensures _ _ m.first.means v h) (c.if-not-word_field-2.ensures _ _ m.second.means v h)
+          _ (c.in_ok-public.ensures _ _ m.third.means v h);
+      end = m.end;
+    }

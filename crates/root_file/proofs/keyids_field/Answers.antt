@@ -1,9 +1,15 @@
 -- `keyids_field` meets its contract.
-use Rattle.root_file.proofs.OwnLaws.{table_none, table_at}
+use mathlib.Core.Path.{◌≡◌}
+use mathlib.Core.Bool.{true}
+use Rattle.canonical_json.specs.Fields.{members}
+use Rattle.rules.specs.Forms.{own_table}
+use Rattle.lookup.specs.Place.{Tests}
+use Rattle.std.proofs.Common.{rules}
+use Rattle.std.specs.Prelude.{MatchOption}
+use Rattle.root_file.proofs.OwnLaws.{table_found}
 use Rattle.root_file.proofs.keyids_field.Goals as goal
 
-pub returns-in-None : goal.returns-in-None
-returns-in-None c = λ p k w. table_none _ p k _ w c.in-None.is
-
-pub returns-in-Some : goal.returns-in-Some
-returns-in-Some c = λ p k w. table_at _ p k _ w _ _ c.in-Some.is c.has_own_keyids.ensures
+pub returns : goal.returns
+returns c =
+    let m : MatchOption c.args.found (c.is_none_or.result ≡ true) (λ x. Tests c.args.s.now x (λ v. own_table (members v)) c.is_none_or.result) = search rules in
+    table_found _ _ _ m

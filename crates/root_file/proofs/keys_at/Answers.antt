@@ -1,20 +1,24 @@
 -- `keys_at` meets its contract.
-use mathlib.Core.Path.{sym, ap, ◌∙◌}
-use borrow.Author.Tests.{not-true, not-false}
-use Rattle.lookup.proofs.StandsLaws.{known-none}
+use mathlib.Core.Path.{sym, ap, ◌∙◌, ◌≡◌}
+use mathlib.Core.Bool.{Bool}
 use Rattle.rules.specs.Forms.{different}
-use Rattle.root_file.specs.View.{view_keys_at}
-use Rattle.root_file.proofs.KeepLaws.{nothing}
-use Rattle.root_file.proofs.TableLaws.{publics, no_table_lem, table_is}
+use Rattle.rules.specs.Records as rules
+use Rattle.std.specs.Prelude.{map}
+use Rattle.records.specs.View.{view_table}
+use Rattle.forms.proofs.StepLaws.{reads-none}
+use Rattle.root_file.proofs.TableLaws.{publics-of, no-table, same-publics, table_is}
 use Rattle.root_file.proofs.keys_at.Goals as goal
 
-pub returns-then-not-read : goal.returns-then-not-read
-unfolding view_keys_at
-returns-then-not-read c = (λ v h. nothing _ c.no_keys.ensures.0 (no_table_lem v _ _ (c.table_at-read.ensures.0 v h) (not-true _ c.if-not-read.true)), known-none _ _ _ c.no_keys.ensures.1)
+pub returns-in_err-table : goal.returns-in_err-table
+returns-in_err-table c = reads-none _ _ _ _ _ c.from_residual.ensures (λ v h. no-table v (c.in_err-table.ensures.means v h))
+
+pub returns-then-not-publics_differ : goal.returns-then-not-publics_differ
+returns-then-not-publics_differ c =
+    record { means = λ v h. same-publics v _ (c.in_ok-table.ensures.means v h) (sym c.if-not-publics_differ.true ∙ c.publics_differ.ensures ∙ ap different (sym (publics-of _ _ c.all.ensures.viewed))); end = tt }
 
 pub returns : goal.returns
-unfolding view_keys_at
-returns c = (
-  λ v h. table_is v _ _ (c.table_at-read.ensures.0 v h) (not-false _ c.if-not-read.false) _ (c.publics_differ-ok.ensures ∙ ap different (sym (publics c.table_at-read.result.table))),
-  c.table_at-read.ensures.1,
-)
+returns c =
+    record {
+      means = λ v h. table_is v _ (c.in_ok-table.ensures.means v h) (sym c.if-not-publics_differ.false ∙ c.publics_differ.ensures ∙ ap different (sym (publics-of _ _ c.all.ensures.viewed)));
+      end = c.in_ok-table.ensures.end;
+    }

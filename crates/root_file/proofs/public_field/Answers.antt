@@ -1,13 +1,12 @@
 -- `public_field` meets its contract.
-use mathlib.Core.Path.{refl}
-use Rattle.canonical_json.specs.Fields.{keep}
-use Rattle.forms.specs.View.{view_id_at}
-use Rattle.forms.proofs.StepLaws.{must-none, must-at}
+use mathlib.Core.Path.{ap}
+use Rattle.std.specs.Option.{option_map}
+use Rattle.records.specs.View.{view_id}
+use Rattle.forms.proofs.StepLaws.{must-lacks, must-holds}
 use Rattle.root_file.proofs.public_field.Goals as goal
 
-pub returns-in-None : goal.returns-in-None
-unfolding view_id_at keep
-returns-in-None c = λ p k w. must-none _ p k w _ _ c.in-None.is refl
+pub returns-in_err-found : goal.returns-in_err-found
+returns-in_err-found c = must-lacks _ _ _ c.in_err-found.was _ (ap (option_map view_id) c.from_residual.ensures)
 
-pub returns-in-Some : goal.returns-in-Some
-returns-in-Some c = λ p k w. must-at _ p k w _ _ _ c.in-Some.is (c.id_field.ensures _ _ c.find_member.ensures.means)
+pub returns : goal.returns
+returns c = must-holds _ _ _ _ c.in_ok-found.was _ (c.id_field.ensures _ _ c.find_member.ensures.means)

@@ -1,22 +1,29 @@
 -- `role_at` meets its contract.
-use mathlib.Core.Path.{refl, sym, ap, ◌∙◌}
-use borrow.Author.Tests.{not-true, not-false}
-use Rattle.lookup.specs.Leaves.{view_number}
+use mathlib.Core.Path.{refl}
+use Rattle.std.specs.declared.option.Option.TheVariants.{None}
 use Rattle.records.specs.View.{view_role}
-use Rattle.envelope.proofs.OpenLaws.{held}
-use Rattle.root_file.specs.View.{view_naming_at, view_role_at}
-use Rattle.root_file.proofs.KeepLaws.{nothing}
+use Rattle.forms.proofs.StepLaws.{must-none, must-at}
+use Rattle.root_file.specs.View.{view_naming}
 use Rattle.root_file.proofs.RoleLaws.{no_naming, no-threshold, role-is}
 use Rattle.root_file.proofs.role_at.Goals as goal
 
-pub returns-then-not-named : goal.returns-then-not-named
-unfolding view_role_at view_role view_naming_at
-returns-then-not-named c = λ v h. nothing _ c.no_role.ensures (no_naming _ v _ _ (c.naming_field-named.ensures.0 _ _ c.find_member-found.ensures.means v h) (not-true _ c.if-not-named.true))
+pub returns-in_err-keyids : goal.returns-in_err-keyids
+returns-in_err-keyids c v h =
+    rw c.from_residual.ensures (no_naming _ v (must-none _ _ _ c.find_member.ensures.means _ None c.in_err-keyids.was refl v h))
 
-pub returns-in-None : goal.returns-in-None
-unfolding view_role_at view_role view_naming_at
-returns-in-None c = λ v h. nothing _ c.no_role-in-None.ensures (no-threshold _ v _ _ (c.naming_field-named.ensures.0 _ _ c.find_member-found.ensures.means v h) (not-false _ c.if-not-named.false) ((sym c.in-None.is) ∙ c.number_field.ensures _ _ (c.find_member_by-second.ensures (c.extent_of.ensures _ c.naming_field-named.ensures.1)).means v h))
+pub returns-in_err-named : goal.returns-in_err-named
+returns-in_err-named c v h =
+    rw c.from_residual-in_err-named.ensures (no_naming _ v (must-at _ _ _ c.find_member.ensures.means _ _ _ c.in_ok-keyids.was c.in_err-named.ensures.means v h))
 
-pub returns-in-Some : goal.returns-in-Some
-unfolding view_role_at view_role view_naming_at
-returns-in-Some c = λ v h. held _ _ refl ∙ role-is _ v _ _ (c.naming_field-named.ensures.0 _ _ c.find_member-found.ensures.means v h) (not-false _ c.if-not-named.false) _ ((sym c.in-Some.is) ∙ c.number_field.ensures _ _ (c.find_member_by-second.ensures (c.extent_of.ensures _ c.naming_field-named.ensures.1)).means v h)
+pub returns-in_err-threshold : goal.returns-in_err-threshold
+unfolding view_naming
+returns-in_err-threshold c v h =
+    let second = c.find_member_by-found.ensures c.in_ok-named.ensures.end in
+    rw c.from_residual-in_err-threshold.ensures
+    (no-threshold _ v _ (must-at _ _ _ c.find_member.ensures.means _ _ _ c.in_ok-keyids.was c.in_ok-named.ensures.means v h) (c.in_err-threshold.ensures _ _ second.means v h))
+
+pub returns : goal.returns
+unfolding view_role view_naming
+returns c v h =
+    let second = c.find_member_by-found.ensures c.in_ok-named.ensures.end in
+    role-is _ v _ (must-at _ _ _ c.find_member.ensures.means _ _ _ c.in_ok-keyids.was c.in_ok-named.ensures.means v h) _ (c.in_ok-threshold.ensures _ _ second.means v h)

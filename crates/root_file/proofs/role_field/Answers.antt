@@ -1,12 +1,12 @@
 -- `role_field` meets its contract.
-use Rattle.forms.proofs.StepLaws.{must-none, must-at}
-use Rattle.envelope.proofs.OpenLaws.{cut}
-use Rattle.root_file.specs.View.{view_role_at}
+use mathlib.Core.Path.{ap}
+use Rattle.std.specs.Option.{option_map}
+use Rattle.records.specs.View.{view_role}
+use Rattle.forms.proofs.StepLaws.{must-lacks, must-holds}
 use Rattle.root_file.proofs.role_field.Goals as goal
 
-pub returns-in-None : goal.returns-in-None
-unfolding view_role_at
-returns-in-None c = λ p k w. must-none _ p k w _ _ c.in-None.is (cut _ _ c.no_role.ensures)
+pub returns-in_err-found : goal.returns-in_err-found
+returns-in_err-found c = must-lacks _ _ _ c.in_err-found.was _ (ap (option_map (view_role _)) c.from_residual.ensures)
 
-pub returns-in-Some : goal.returns-in-Some
-returns-in-Some c = λ p k w. must-at _ p k w _ _ _ c.in-Some.is c.role_at.ensures
+pub returns : goal.returns
+returns c = must-holds _ _ _ _ c.in_ok-found.was _ c.role_at.ensures
