@@ -1,51 +1,54 @@
-use mathlib.Core.Path.{refl, sym, ap, ◌∙◌}
-use Prim.Native.Nat.{ℕ, ◌+◌, ◌*◌}
-use native.Mathlib.Omega.{arith}
-use lib.ListN.{drop, get_or}
-use Rattle.base.proofs.ByteLaws.{digit, digit_low, digit-high}
-use Rattle.script.specs.Numbers.{digits, view_number}
-use Rattle.canonical_json.specs.Fields.{keep}
+use Rattle.std.proofs.Common.{◌≡◌, sym, ap, ◌∙◌, ℕ, ◌+◌, ◌-◌, ◌*◌, ◌^◌, ◌<◌, drop, get_or, arith}
+use Rattle.script.specs.Numbers.{digits}
 use Rattle.script.proofs.NumberLaws as numbers
 use Rattle.script.proofs.digits.Goals as goal
 
-pub loop-i-init : goal.loop-i-init
-loop-i-init c = (omega arith, refl)
-
-pub returns-then-b-lt48 : goal.returns-then-b-lt48
-returns-then-b-lt48 c =
+pub returns-then-not-is_ascii_digit-clause-value : goal.returns-then-not-is_ascii_digit-clause-value
+returns-then-not-is_ascii_digit-clause-value c =
     let a = c.args in
-    let l = c.loop-i in
-    (c.no_number.ensures.0 ∙ sym (l.invariant.1 ∙ numbers.digits-other a.most a.s.now l.i l.n c.loop-i-test.true (digit_low _ c.if-b-lt48.true)), omega (arith, c.no_number.ensures.1))
+    let l = c.loop-b in
+    let t = c.if-not-is_ascii_digit.ensures in
+    sym (l.invariant.1 ∙ numbers.digits-other a.most a.s.now l.b-index l.n c.loop-b-test.true (sym t.value))
 
-pub returns-then-b-gt57 : goal.returns-then-b-gt57
-returns-then-b-gt57 c =
+pub returns-in_err-checked_mul-clause-value : goal.returns-in_err-checked_mul-clause-value
+returns-in_err-checked_mul-clause-value c =
     let a = c.args in
-    let l = c.loop-i in
-    (c.no_number-then-b-gt57.ensures.0 ∙ sym (l.invariant.1 ∙ numbers.digits-other a.most a.s.now l.i l.n c.loop-i-test.true (digit-high _ c.if-b-gt57.true)), omega (arith, c.no_number-then-b-gt57.ensures.1))
+    let l = c.loop-b in
+    let over : l.n * 10 < 2 ^ 64 → ⊥ = c.in_err-checked_mul.ensures in
+    c.from_residual.ensures ∙ sym (l.invariant.1 ∙ numbers.digits-over a.most a.s.now l.b-index l.n c.loop-b-test.true (omega arith))
 
-pub returns-then-most-n : goal.returns-then-most-n
-returns-then-most-n c =
+pub returns-in_err-n-clause-value : goal.returns-in_err-n-clause-value
+returns-in_err-n-clause-value c =
     let a = c.args in
-    let l = c.loop-i in
-    (c.no_number-then-most-n.ensures.0 ∙ sym (l.invariant.1 ∙ numbers.digits-over a.most a.s.now l.i l.n c.loop-i-test.true (omega arith)), omega (arith, c.no_number-then-most-n.ensures.1))
+    let l = c.loop-b in
+    let m = c.in_ok-checked_mul.ensures in
+    let over = c.in_err-n.ensures in
+    c.from_residual-in_err-n.ensures ∙ sym (l.invariant.1 ∙ numbers.digits-over a.most a.s.now l.b-index l.n c.loop-b-test.true (omega arith))
 
-pub returns-then-most-m : goal.returns-then-most-m
-returns-then-most-m c =
+pub returns-then-most-n-clause-value : goal.returns-then-most-n-clause-value
+returns-then-most-n-clause-value c =
     let a = c.args in
-    let l = c.loop-i in
-    let d = c.wide-d.ensures in
-    (c.no_number-then-most-m.ensures.0 ∙ sym (l.invariant.1 ∙ numbers.digits-over a.most a.s.now l.i l.n c.loop-i-test.true (omega arith)), omega (arith, c.no_number-then-most-m.ensures.1))
+    let l = c.loop-b in
+    let m = c.in_ok-checked_mul.ensures in
+    let n = c.in_ok-n.ensures in
+    sym (l.invariant.1 ∙ numbers.digits-over a.most a.s.now l.b-index l.n c.loop-b-test.true (omega arith))
 
-pub loop-i-preserved : goal.loop-i-preserved
-loop-i-preserved c =
+pub loop-b-preserved : goal.loop-b-preserved
+loop-b-preserved c =
     let a = c.args in
-    let l = c.loop-i in
-    let d = c.wide-d.ensures in
-    (omega arith, l.invariant.1 ∙ numbers.digits-next a.most a.s.now l.i l.n c.loop-i-test.true (digit (get_or a.s.now l.i 0) c.if-b-lt48.false c.if-b-gt57.false) (omega arith) ∙ ap (λ (x : ℕ). digits a.most (l.n * 10 + x) (drop (l.i + 1) a.s.now)) (sym d))
+    let l = c.loop-b in
+    let t = c.if-not-is_ascii_digit.ensures in
+    let m = c.in_ok-checked_mul.ensures in
+    let n = c.in_ok-n.ensures in
+    let next : c.in_ok-n.n ≡ l.n * 10 + (get_or a.s.now l.b-index 0 - 48) = omega arith in (
+      c.if-most-n.false,
+      l.invariant.1
+          ∙ numbers.digits-next a.most a.s.now l.b-index l.n c.loop-b-test.true (sym t.value) (omega arith)
+          ∙ ap (λ (x : ℕ). digits a.most x (drop (l.b-index + 1) a.s.now)) (sym next),
+    )
 
-pub returns : goal.returns
-unfolding view_number keep
-returns c =
+pub returns-clause-value : goal.returns-clause-value
+returns-clause-value c =
     let a = c.args in
-    let l = c.loop-i in
-    (sym (l.invariant.1 ∙ numbers.digits-spent a.most a.s.now l.i l.n c.loop-i-test.false), l.invariant.0)
+    let l = c.loop-b in
+    sym (l.invariant.1 ∙ numbers.digits-spent a.most a.s.now l.b-index l.n c.loop-b-test.false)
