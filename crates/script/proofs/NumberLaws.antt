@@ -25,10 +25,12 @@ module _ (most : ℕ) (s : Bytes) (i n : ℕ) where
   digits-over h f = rw (at-cons s i h, lt-leb (n * 10 + (get_or s i 0 - 48)) most f, and-false)
 
   pub digits-next :
-      i < length s → is_digit (get_or s i 0) ≡ true → n * 10 + (get_or s i 0 - 48) ≤ most →
-      digits most n (drop i s) ≡ digits most (n * 10 + (get_or s i 0 - 48)) (drop (i + 1) s)
+      (m : ℕ) → i < length s → is_digit (get_or s i 0) ≡ true → m ≡ n * 10 + (get_or s i 0 - 48) → m ≤ most →
+      digits most n (drop i s) ≡ digits most m (drop (i + 1) s)
   unfolding digits
-  digits-next h f l = rw (at-cons s i h) (simp (f, le-leb (n * 10 + (get_or s i 0 - 48)) most l))
+  digits-next m h f e l = rw e (rw (at-cons s i h) (simp (f, le-leb (n * 10 + (get_or s i 0 - 48)) most (rw e at l))))
+
+pub ruleset digit_turns = (digits-spent, digits-other, digits-over, digits-next)
 
 pub number-none : (most : ℕ) (s : Bytes) → length s ≡ 0 → number most s ≡ None
 unfolding number

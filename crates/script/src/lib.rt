@@ -31,6 +31,7 @@ pub fn word(line: &[u8], k: usize) -> &[u8]
 // ---- Numbers
 
 // The number that digits write, where it is at most `most`.
+#[tactic(auto, using(crate::proofs::NumberLaws::digit_turns))]
 fn digits(s: &[u8], most: u64) -> Option<u64>
     ensures value { result ≡ digits_of most 0 s.now }
     ensures bound { IfSome result (λ n. n ≤ most) }

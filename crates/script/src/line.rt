@@ -1,8 +1,8 @@
 // A line that is put together piece by piece: each piece goes behind those before it, as far as there is room.
 ghost use Rattle.std.specs.Prelude.{◌≡◌, ◌≤◌, [], ◌++◌, take};
-ghost use Rattle.std.specs.Fmt.{decimal, signed_decimal};
 ghost use Rattle.base.specs.Hex.{hex_of, hex_digit};
 
+use itoa::{Buffer, Integer};
 use std::marker::Model;
 
 // The bytes that a line has room for.
@@ -17,12 +17,13 @@ pub struct Line {
 
 impl Model for Line {
     ghost use Rattle.std.specs.Prelude.{List, ℕ, ◌≤◌, take};
+    ghost use Rattle.script.specs.declared.line.TheConstants.{ROOM};
 
     ghost Value = { List ℕ };
 
     ghost view = { λ l. take l.len l.bytes };
 
-    ghost invariant = { λ l. l.len ≤ 512 };
+    ghost invariant = { λ l. l.len ≤ ROOM };
 }
 
 impl Line {
@@ -50,17 +51,11 @@ impl Line {
         self.len = end;
     }
 
-    pub fn push_number(&mut self, n: u64)
-        ensures { self.new ≡ take ROOM (self.old ++ decimal n) }
+    // The number as `{}` prints it.
+    pub fn push_number<N: Integer>(&mut self, n: N)
+        ensures { self.new ≡ take ROOM (self.old ++ N.text n) }
     {
-        let mut buffer = itoa::Buffer::new();
-        self.push(buffer.format(n).as_bytes());
-    }
-
-    pub fn push_count(&mut self, n: i64)
-        ensures { self.new ≡ take ROOM (self.old ++ signed_decimal n) }
-    {
-        let mut buffer = itoa::Buffer::new();
+        let mut buffer = Buffer::new();
         self.push(buffer.format(n).as_bytes());
     }
 
