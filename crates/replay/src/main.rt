@@ -4,8 +4,9 @@
 mod calls;
 mod lines;
 
-ghost use Rattle.std.specs.Prelude.{◌≡◌, ◌+◌, ◌≤◌, length, take, IfOk};
+ghost use Rattle.std.specs.Prelude.{◌≡◌, ◌+◌, ◌≤◌, length, take, drop, IfOk};
 
+use arguments::Problem;
 use std::io;
 use std::io::Read;
 use std::rt::Files;
@@ -24,90 +25,46 @@ const BYTES: usize = 3145729;
 struct Progress {
     from: usize,
     to: usize,
-    // the number of the line that begins at `from`
+    // the number of the line that begins at `from`; no script has more than the highest
     line: u64,
     // the rest of a line that was too long is passed over
     over: bool,
-    done: bool,
     state: State,
 }
 
-fn at_the_start(state: State) -> Progress {
-    Progress {
-        from: 0,
-        to: 0,
-        line: 1,
-        over: false,
-        done: false,
-        state,
-    }
-}
-
-fn finished(state: State) -> Progress {
-    Progress {
-        from: 0,
-        to: 0,
-        line: 0,
-        over: false,
-        done: true,
-        state,
-    }
-}
-
-// The number of the next line; no script has more.
-fn after(line: u64) -> u64 {
-    if line < u64::MAX { line + 1 } else { line }
-}
-
-// The end of a line that was too long is not played: it was reported at its beginning.
-fn play_unless(
-    rt: &(impl Files + Print),
-    over: bool,
-    state: State,
-    line: &[u8],
-    number: u64,
-    bytes: &mut [u8],
-) -> io::Result<State> {
-    if over {
-        return Ok(state);
-    }
-    calls::play(rt, state, line, number, bytes)
-}
-
-fn report_unless(rt: &impl Print, over: bool, number: u64) -> io::Result<()> {
-    if over {
-        return Ok(());
-    }
-    lines::too_long(rt, number)
-}
-
-// The first place from `from` up to `to` that holds b, or `to`.
-fn place_of(s: &[u8], from: usize, to: usize, b: u8) -> usize
-    requires { (from ≤ to) × (to ≤ length s.now) }
-    ensures { (from ≤ result) × (result ≤ to) }
-{
-    let mut i = from;
-    while i < to {
-        if s[i] == b {
-            return i;
+impl Progress {
+    fn start() -> Progress {
+        Progress {
+            from: 0,
+            to: 0,
+            line: 1,
+            over: false,
+            state: State::blank(),
         }
-        i += 1;
     }
-    i
+
+    // The state after the line. The end of one that was too long is not played: it was reported at its beginning.
+    fn play(
+        self,
+        rt: &(impl Files + Print),
+        line: &[u8],
+        bytes: &mut [u8],
+    ) -> io::Result<State> {
+        if self.over {
+            return Ok(self.state);
+        }
+        calls::play(rt, self.state, line, self.line, bytes)
+    }
 }
 
-// Moves the bytes from `from` up to `to` to the front.
+// Moves the bytes from `from` up to `to` to the front; how many they are.
 fn shift(buf: &mut [u8], from: usize, to: usize) -> usize
     requires { (from ≤ to) × (to ≤ length buf.old) }
-    ensures { result + from ≡ to }
+    ensures count { result + from ≡ to }
+    ensures moved { take result buf.new ≡ drop from (take to buf.old) }
 {
-    let n = to - from;
-    let mut i = 0;
-    while i < n {
-        buf[i] = buf[from + i];
-        i += 1;
-    }
-    n
+    buf.copy_within(from..to, 0);
+    to - from
 }
 
 // Reads once, behind the first `to` bytes; how many came. These stay, also where the reading fails.
@@ -126,91 +83,70 @@ fn read_on(
     buf: &mut [u8],
     p: Progress,
     bytes: &mut [u8],
-) -> io::Result<Progress> {
-    let from = p.from;
-    let to = p.to;
-    let state = p.state;
-    if to < from {
-        return Ok(finished(state));
-    }
-    if buf.len() < to {
-        return Ok(finished(state));
-    }
-    let n = shift(buf, from, to);
+) -> io::Result<Option<Progress>>
+    requires { (p.from ≤ p.to) × (p.to ≤ length buf.old) }
+{
+    let n = shift(buf, p.from, p.to);
     let got = fill(script, buf, n)?;
-    if 0 < got {
-        return Ok(Progress {
-            from: 0,
-            to: n + got,
-            line: p.line,
-            over: p.over,
-            done: false,
-            state,
-        });
+    if got == 0 {
+        p.play(rt, &buf[..n], bytes)?;
+        return Ok(None);
     }
-    let last = play_unless(rt, p.over, state, &buf[..n], p.line, bytes)?;
-    Ok(finished(last))
+    Ok(Some(Progress {
+        from: 0,
+        to: n + got,
+        ..p
+    }))
 }
 
-// One line, or one reading.
+// One line, or one reading; none where the script has been played.
 fn turn(
     rt: &(impl Files + Print),
     script: &mut impl Read,
     buf: &mut [u8],
     p: Progress,
     bytes: &mut [u8],
-) -> io::Result<Progress> {
-    let from = p.from;
-    let to = p.to;
-    let state = p.state;
-    if to < from {
-        return Ok(finished(state));
-    }
-    if buf.len() < to {
-        return Ok(finished(state));
-    }
-    let e = place_of(buf, from, to, b'\n');
-    if e < to {
-        let behind = e + 1;
-        let next = play_unless(rt, p.over, state, &buf[from..e], p.line, bytes)?;
-        return Ok(Progress {
-            from: behind,
-            to,
-            line: after(p.line),
+) -> io::Result<Option<Progress>> {
+    let Some(rest) = buf.get(p.from..p.to) else {
+        return Ok(None);
+    };
+    if let Some(n) = rest.iter().position(|b| *b == b'\n') {
+        let state = p.play(rt, &rest[..n], bytes)?;
+        return Ok(Some(Progress {
+            from: p.from + n + 1,
+            line: p.line.saturating_add(1),
             over: false,
-            done: false,
-            state: next,
-        });
+            state,
+            ..p
+        }));
     }
-    if buf.len() <= to - from {
-        report_unless(rt, p.over, p.line)?;
-        return Ok(Progress {
+    if rest.len() == buf.len() {
+        if !p.over {
+            lines::problem(rt, p.line, Problem::TooLong)?;
+        }
+        return Ok(Some(Progress {
             from: 0,
             to: 0,
-            line: p.line,
             over: true,
-            done: false,
-            state,
-        });
+            ..p
+        }));
     }
     read_on(rt, script, buf, p, bytes)
 }
 
-// A proved loop has to end, and nothing says that a script does: it counts down from a number that no run uses up.
+// A proved loop has to end, and nothing says that a script does: it takes as many turns as no run uses up.
 fn run(
     rt: &(impl Files + Print),
     script: &mut impl Read,
     buf: &mut [u8],
     bytes: &mut [u8],
 ) -> io::Result<()> {
-    let mut p = at_the_start(State::blank());
-    let mut turns = u64::MAX;
-    while 0 < turns {
-        p = turn(rt, script, buf, p, bytes)?;
-        if p.done {
+    let mut p = Progress::start();
+    for _i in 0..u64::MAX {
+        let Some(next) = turn(rt, script, buf, p, bytes)? else {
             return Ok(());
-        }
-        turns -= 1;
+        };
+        p = next;
     }
     Ok(())
 }
