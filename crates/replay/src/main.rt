@@ -4,7 +4,7 @@
 mod calls;
 mod lines;
 
-ghost use Rattle.std.specs.Prelude.{◌≡◌, ◌+◌, ◌≤◌, length, take, drop, IfOk};
+ghost use Rattle.std.specs.Prelude.{◌≡◌, ◌+◌, ◌≤◌, length, take, slice_range, IfOk};
 
 use arguments::Problem;
 use std::io;
@@ -44,12 +44,7 @@ impl Progress {
     }
 
     // The state after the line. The end of one that was too long is not played: it was reported at its beginning.
-    fn play(
-        self,
-        rt: &(impl Files + Print),
-        line: &[u8],
-        bytes: &mut [u8],
-    ) -> io::Result<State> {
+    fn play(self, rt: &(impl Files + Print), line: &[u8], bytes: &mut [u8]) -> io::Result<State> {
         if self.over {
             return Ok(self.state);
         }
@@ -61,7 +56,7 @@ impl Progress {
 fn shift(buf: &mut [u8], from: usize, to: usize) -> usize
     requires { (from ≤ to) × (to ≤ length buf.old) }
     ensures count { result + from ≡ to }
-    ensures moved { take result buf.new ≡ drop from (take to buf.old) }
+    ensures moved { take result buf.new ≡ slice_range buf.old from to }
 {
     buf.copy_within(from..to, 0);
     to - from
