@@ -87,39 +87,42 @@ fn play_date(rt: &impl Print, text: &[u8]) -> io::Result<()> {
 
 // ---- A call
 
-// Writes the line of a call that gives back a state.
-fn told(rt: &impl Print, name: &[u8], step: Step) -> io::Result<State> {
-    lines::step(rt, name, step)?;
-    Ok(step.state)
+// Keeps the state that a call gives back, and writes its line.
+fn told(rt: &impl Print, name: &[u8], step: Step, state: &mut State) -> io::Result<()> {
+    *state = step.state;
+    lines::step(rt, name, step)
 }
 
-// The state after a call.
-fn perform(rt: &impl Print, call: Call, state: State, a: &Arguments) -> io::Result<State> {
+fn perform(rt: &impl Print, call: Call, state: &mut State, a: &Arguments) -> io::Result<()> {
     let first = a.part(0);
     let second = a.part(1);
     let third = a.part(2);
     match call {
-        Call::Install => return told(rt, b"install", State::install(first, second, a.time(2))),
-        Call::Cycle => return told(rt, b"cycle", state.new_cycle(a.time(0))),
-        Call::Root => return told(rt, b"root", state.root(first, second, third)),
-        Call::Timestamp => return told(rt, b"timestamp", state.timestamp(first, second)),
-        Call::Snapshot => return told(rt, b"snapshot", state.snapshot(first, second)),
-        Call::Targets => return told(rt, b"targets", state.targets(first, second)),
-        Call::Text => lines::number(rt, b"text", text_answer(first))?,
-        Call::Date => play_date(rt, first)?,
-        Call::Sha256 => lines::digest(rt, tuf::digest(first))?,
-        Call::Look => lines::looked(rt, tuf::look(first))?,
-        Call::Entry => lines::entry(rt, tuf::entry(first, a.number(1) as usize))?,
-        Call::Key => lines::key(rt, state.key(first))?,
-        Call::Find => lines::image(rt, state.find(first, second))?,
+        Call::Install => told(
+            rt,
+            b"install",
+            State::install(first, second, a.time(2)),
+            state,
+        ),
+        Call::Cycle => told(rt, b"cycle", state.new_cycle(a.time(0)), state),
+        Call::Root => told(rt, b"root", state.root(first, second, third), state),
+        Call::Timestamp => told(rt, b"timestamp", state.timestamp(first, second), state),
+        Call::Snapshot => told(rt, b"snapshot", state.snapshot(first, second), state),
+        Call::Targets => told(rt, b"targets", state.targets(first, second), state),
+        Call::Text => lines::number(rt, b"text", text_answer(first)),
+        Call::Date => play_date(rt, first),
+        Call::Sha256 => lines::digest(rt, tuf::digest(first)),
+        Call::Look => lines::looked(rt, tuf::look(first)),
+        Call::Entry => lines::entry(rt, tuf::entry(first, a.number(1) as usize)),
+        Call::Key => lines::key(rt, state.key(first)),
+        Call::Find => lines::image(rt, state.find(first, second)),
         // what was found first, then what was fetched
         Call::Image => {
             let answer = tuf::check_image(a.number(0), second, a.number(2), a.part(3));
-            lines::number(rt, b"image", answer)?
+            lines::number(rt, b"image", answer)
         }
-        Call::State => lines::versions(rt, state.versions())?,
+        Call::State => lines::versions(rt, state.versions()),
     }
-    Ok(state)
 }
 
 // ---- A line
@@ -135,23 +138,20 @@ fn read<'b>(
     Ok((call, a))
 }
 
-// Plays a line; the state after it. A line that is empty or begins with `#` is passed over.
+// Plays a line. One that is empty or begins with `#` is passed over.
 pub fn play(
     rt: &(impl Files + Print),
-    state: State,
+    state: &mut State,
     line: &[u8],
     number: u64,
     bytes: &mut [u8],
-) -> io::Result<State> {
+) -> io::Result<()> {
     match line {
-        [] | [b'#', ..] => return Ok(state),
+        [] | [b'#', ..] => return Ok(()),
         _ => {}
     }
     match read(rt, line, bytes) {
         Ok((call, a)) => perform(rt, call, state, &a),
-        Err(problem) => {
-            lines::problem(rt, number, problem)?;
-            Ok(state)
-        }
+        Err(problem) => lines::problem(rt, number, problem),
     }
 }

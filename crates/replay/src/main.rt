@@ -21,7 +21,7 @@ const BYTES: usize = 3145729;
 // ---- The script, line by line
 
 // Where the run stands: the bytes of the buffer that are still to be played are those from `from` up to `to`.
-#[derive(Clone, Copy)]
+#[derive(Drop)]
 struct Progress {
     from: usize,
     to: usize,
@@ -43,12 +43,65 @@ impl Progress {
         }
     }
 
-    // The state after the line. The end of one that was too long is not played: it was reported at its beginning.
-    fn play(self, rt: &(impl Files + Print), line: &[u8], bytes: &mut [u8]) -> io::Result<State> {
+    // Plays the line at `from`. The end of one that was too long is not played: it was reported at its beginning.
+    fn play(&mut self, rt: &(impl Files + Print), line: &[u8], bytes: &mut [u8]) -> io::Result<()> {
         if self.over {
-            return Ok(self.state);
+            return Ok(());
         }
-        calls::play(rt, self.state, line, self.line, bytes)
+        let number = self.line;
+        calls::play(rt, &mut self.state, line, number, bytes)
+    }
+
+    // One line, or one reading; whether the script goes on.
+    fn turn(
+        &mut self,
+        rt: &(impl Files + Print),
+        script: &mut impl Read,
+        buf: &mut [u8],
+        bytes: &mut [u8],
+    ) -> io::Result<bool> {
+        let Some(rest) = buf.get(self.from..self.to) else {
+            return Ok(false);
+        };
+        if let Some(n) = rest.iter().position(|b| *b == b'\n') {
+            let behind = self.from + n + 1;
+            self.play(rt, &rest[..n], bytes)?;
+            self.from = behind;
+            self.line = self.line.saturating_add(1);
+            self.over = false;
+            return Ok(true);
+        }
+        if rest.len() == buf.len() {
+            if !self.over {
+                lines::problem(rt, self.line, Problem::TooLong)?;
+            }
+            self.from = 0;
+            self.to = 0;
+            self.over = true;
+            return Ok(true);
+        }
+        self.read_on(rt, script, buf, bytes)
+    }
+
+    // What is in the buffer has no line end: reads more of the line, or plays what there is at the script's end.
+    fn read_on(
+        &mut self,
+        rt: &(impl Files + Print),
+        script: &mut impl Read,
+        buf: &mut [u8],
+        bytes: &mut [u8],
+    ) -> io::Result<bool>
+        requires { (self.old.from ≤ self.old.to) × (self.old.to ≤ length buf.old) }
+    {
+        let n = shift(buf, self.from, self.to);
+        let got = fill(script, buf, n)?;
+        if got == 0 {
+            self.play(rt, &buf[..n], bytes)?;
+            return Ok(false);
+        }
+        self.from = 0;
+        self.to = n + got;
+        Ok(true)
     }
 }
 
@@ -71,64 +124,6 @@ fn fill(script: &mut impl Read, buf: &mut [u8], to: usize) -> io::Result<usize>
     script.read(&mut buf[to..])
 }
 
-// What is in the buffer has no line end: reads more of the line, or plays what there is at the script's end.
-fn read_on(
-    rt: &(impl Files + Print),
-    script: &mut impl Read,
-    buf: &mut [u8],
-    p: Progress,
-    bytes: &mut [u8],
-) -> io::Result<Option<Progress>>
-    requires { (p.from ≤ p.to) × (p.to ≤ length buf.old) }
-{
-    let n = shift(buf, p.from, p.to);
-    let got = fill(script, buf, n)?;
-    if got == 0 {
-        p.play(rt, &buf[..n], bytes)?;
-        return Ok(None);
-    }
-    Ok(Some(Progress {
-        from: 0,
-        to: n + got,
-        ..p
-    }))
-}
-
-// One line, or one reading; none where the script has been played.
-fn turn(
-    rt: &(impl Files + Print),
-    script: &mut impl Read,
-    buf: &mut [u8],
-    p: Progress,
-    bytes: &mut [u8],
-) -> io::Result<Option<Progress>> {
-    let Some(rest) = buf.get(p.from..p.to) else {
-        return Ok(None);
-    };
-    if let Some(n) = rest.iter().position(|b| *b == b'\n') {
-        let state = p.play(rt, &rest[..n], bytes)?;
-        return Ok(Some(Progress {
-            from: p.from + n + 1,
-            line: p.line.saturating_add(1),
-            over: false,
-            state,
-            ..p
-        }));
-    }
-    if rest.len() == buf.len() {
-        if !p.over {
-            lines::problem(rt, p.line, Problem::TooLong)?;
-        }
-        return Ok(Some(Progress {
-            from: 0,
-            to: 0,
-            over: true,
-            ..p
-        }));
-    }
-    read_on(rt, script, buf, p, bytes)
-}
-
 // A proved loop has to end, and nothing says that a script does: it takes as many turns as no run uses up.
 fn run(
     rt: &(impl Files + Print),
@@ -136,12 +131,11 @@ fn run(
     buf: &mut [u8],
     bytes: &mut [u8],
 ) -> io::Result<()> {
-    let mut p = Progress::start();
+    let mut progress = Progress::start();
     for _i in 0..u64::MAX {
-        let Some(next) = turn(rt, script, buf, p, bytes)? else {
-            return Ok(());
-        };
-        p = next;
+        if !progress.turn(rt, script, buf, bytes)? {
+            break;
+        }
     }
     Ok(())
 }

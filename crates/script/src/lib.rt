@@ -18,7 +18,13 @@ pub use line::{Line, ROOM};
 pub fn words(line: &[u8]) -> usize
     ensures { result ≡ words_of line.now }
 {
-    line.iter().filter(|b| **b == b' ').count() + 1
+    let mut n = 1;
+    for b in line {
+        if *b == b' ' {
+            n += 1;
+        }
+    }
+    n
 }
 
 // Word k of a line, counted from 0; no bytes where there is none.

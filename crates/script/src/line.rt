@@ -1,5 +1,5 @@
 // A line that is put together piece by piece: each piece goes behind those before it, as far as there is room.
-ghost use Rattle.std.specs.Prelude.{◌≡◌, ◌≤◌, [], ◌++◌, take};
+ghost use Rattle.std.specs.Prelude.{◌≡◌, ◌≤◌, [], ◌++◌, length, take};
 ghost use Rattle.base.specs.Hex.{hex_of, hex_digit};
 
 use itoa::{Buffer, Integer};
@@ -37,7 +37,8 @@ impl Line {
     }
 
     pub fn text(&self) -> &[u8]
-        ensures { result.now ≡ self.now }
+        ensures value { result.now ≡ self.now }
+        ensures within { length result.now ≤ ROOM }
     {
         &self.bytes[..self.len]
     }
@@ -63,7 +64,7 @@ impl Line {
     pub fn push_hex(&mut self, bytes: &[u8])
         ensures { self.new ≡ take ROOM (self.old ++ hex_of bytes.now) }
     {
-        // The proof reads here that what there is has room.
+        // No effect at run time: the proof reads here that what there is has room.
         let _ = &self.bytes;
         for b in bytes {
             self.push(&[hex_glyph(b / 16), hex_glyph(b % 16)]);
