@@ -1,8 +1,7 @@
 // The calls of docs/REPLAY.md: each reads its arguments, calls the library and writes one line.
 use crate::lines;
-use answers::Answer;
+use answers::{Answer, Refusal};
 use arguments::{Arguments, Kind, Problem};
-use date::Date;
 use std::io;
 use std::rt::Files;
 use tuf::{State, Step};
@@ -70,18 +69,18 @@ impl Call {
 // 01's answer about a file's text: too long, not canonical, or neither.
 fn text_answer(text: &[u8]) -> Answer {
     if records::MAX_FILE < text.len() {
-        Answer::TooLong
+        Err(Refusal::TooLong)
     } else if canonical_json::is_canonical(text) {
-        Answer::Accepted
+        Ok(())
     } else {
-        Answer::NotText
+        Err(Refusal::NotText)
     }
 }
 
 fn play_date(rt: &impl Print, text: &[u8]) -> io::Result<()> {
     match date::parse(text) {
-        Date::At(t) => lines::date(rt, t),
-        Date::Bad => lines::no_date(rt),
+        Some(t) => lines::date(rt, t),
+        None => lines::no_date(rt),
     }
 }
 
