@@ -145,9 +145,8 @@ pub fn play(
     number: u64,
     bytes: &mut [u8],
 ) -> io::Result<()> {
-    match line {
-        [] | [b'#', ..] => return Ok(()),
-        _ => {}
+    if matches!(line, [] | [b'#', ..]) {
+        return Ok(());
     }
     match read(rt, line, bytes) {
         Ok((call, a)) => perform(rt, call, state, &a),

@@ -132,7 +132,7 @@ fn run(
     bytes: &mut [u8],
 ) -> io::Result<()> {
     let mut progress = Progress::start();
-    for _i in 0..u64::MAX {
+    for _ in 0..u64::MAX {
         if !progress.turn(rt, script, buf, bytes)? {
             break;
         }
