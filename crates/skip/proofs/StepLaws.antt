@@ -1,38 +1,48 @@
 -- One law for each turn of a loop and each way out, at a place of the text.
 use mathlib.Core.Path.{◌≡◌, refl, sym, ap, ◌∙◌}
-use mathlib.Core.List.{◌∷◌}
+use mathlib.Core.List.{[], ◌∷◌}
 use mathlib.Core.Bool.{Bool, true, false, not, ◌&&◌, ◌||◌}
 use mathlib.Core.Logic.{◌⊎◌, inl, inr}
 use Prim.Native.Nat.{ℕ, zero, suc, ◌≤◌, ◌<◌, ◌+◌, ◌-◌}
 use native.Mathlib.Omega.{arith}
-use native.Mathlib.Numerals.{add-one}
+use native.Mathlib.Numerals.{add-one, one-add}
 use lib.Dec.{eqb}
-use lib.ListN.{length, drop, get_or}
+use lib.ListN.{length, take, drop, get_or, length-take}
+use Rattle.std.specs.List.{prefix_len}
+use Rattle.std.proofs.lemmas.List.{take_rest, get_or-take, get_or-drop}
+use Rattle.std.specs.declared.option.Option.TheVariants.{Some}
 use lib.Seq.{drop-drop}
 use borrow.Author.Tests.{ne_eqb, eqb-false, not-true}
 use Rattle.base.specs.Bytes.{Bytes, is_digit}
 use Rattle.base.proofs.PlaceLaws.{at-cons, at-end}
 use Rattle.base.proofs.TestLaws.{both}
-use Rattle.canonical_json.specs.Read.{raw}
+use Rattle.canonical_json.specs.Read.{raw, end_of, digits}
+use Rattle.canonical_json.proofs.Numbers.{run, within}
 use Rattle.canonical_json.proofs.NameLaws.{raw-plain}
-use Rattle.skip.specs.Skim.{skim, quoted, past_digits, Plain, Bare}
+use Rattle.skip.specs.Skim.{skim, quoted, past_digits, Plain, Bare, DigitsEnd}
 use Rattle.skip.proofs.SkimLaws.{skim-nil, skim-zero, skim-quote, skim_bracket, skim_brace, skim-bracket_end, skim_brace_end, skim-other, quoted-nil, quoted-close, quoted-cut, quoted_escape, quoted-plain}
 
 -- ## Digits and strings
 
+past-run : (t : Bytes) → past_digits t ≡ drop (prefix_len is_digit t) t
+unfolding past_digits
+past-run [] = refl
+past-run (b ∷ t) = go (is_digit b) refl (past-run t)
+  where
+    go : (x : Bool) → is_digit b ≡ x → past_digits t ≡ drop (prefix_len is_digit t) t → past_digits (b ∷ t) ≡ drop (prefix_len is_digit (b ∷ t)) (b ∷ t)
+    go true e k = simp (e, k, one-add)
+    go false e k = simp e
+
+-- the digits end where the reader of a number ends them
+pub digits-stand : (s : Bytes) (i e : ℕ) → i ≤ length s → end_of (length s) (digits (drop i s)) ≡ Some e → DigitsEnd s i e
+digits-stand s i e h k =
+    let n = prefix_len is_digit (drop i s) in
+    let r : end_of (length s) (digits (drop i s)) ≡ Some (i + n) = rw take_rest at (run s i h) in
+    let w : i + n ≤ length s = rw take_rest at (within s i h) in
+    let q : e ≡ i + n = cc in
+    record { means = rw q (past-run (drop i s) ∙ drop-drop n i s); onward = omega arith; within = omega arith }
+
 module _ (s : Bytes) (i : ℕ) where
-  pub digits-spent : length s ≤ i → past_digits (drop i s) ≡ drop i s
-  unfolding past_digits
-  digits-spent h = rw (at-end s i h)
-
-  pub digits-stop : i < length s → is_digit (get_or s i 0) ≡ false → past_digits (drop i s) ≡ drop i s
-  unfolding past_digits
-  digits-stop h f = rw (at-cons s i h) (simp f)
-
-  pub digits-on : i < length s → is_digit (get_or s i 0) ≡ true → past_digits (drop i s) ≡ past_digits (drop (i + 1) s)
-  unfolding past_digits
-  digits-on h f = rw (at-cons s i h) (simp f)
-
   -- inside a string
   pub string-spent : length s ≤ i → (n : ℕ) → quoted (drop i s) n ≡ skim (drop i s) n
   string-spent h n = rw (at-end s i h) (quoted-nil n ∙ sym (skim-nil n))
@@ -76,18 +86,24 @@ module _ (s : Bytes) (i : ℕ) where
   pub block_start : Bare s i (i + 0)
   block_start = bare_to s i i (i + 0) (bare_none s i) (omega arith)
 
-  pub block_next : (k : ℕ) (plain : Bool) → (plain ≡ true → Bare s i (i + k)) → i + k < length s
-      → (plain && not (eqb (get_or s (i + k) 0) 34)) && not (eqb (get_or s (i + k) 0) 92) ≡ true → Bare s i (i + (k + 1))
+  block_next : (k : ℕ) (plain : Bool) → (plain ≡ true → Bare s i (i + k)) → i + k < length s
+      → plain && (not (eqb (get_or s (i + k) 0) 34) && not (eqb (get_or s (i + k) 0) 92)) ≡ true → Bare s i (i + (k + 1))
   block_next k plain p h e =
       let b = get_or s (i + k) 0 in
-      let x = both (plain && not (eqb b 34)) (not (eqb b 92)) e in
-      let y = both plain (not (eqb b 34)) x.0 in
+      let x = both plain (not (eqb b 34) && not (eqb b 92)) e in
+      let y = both (not (eqb b 34)) (not (eqb b 92)) x.1 in
       bare_to s i (i + k + 1) (i + (k + 1))
-      (bare_then s i (i + k) (i + k + 1) (p y.0) (bare_one s (i + k) h (eqb-false b 34 (not-true (eqb b 34) y.1)) (eqb-false b 92 (not-true (eqb b 92) x.1))))
+      (bare_then s i (i + k) (i + k + 1) (p x.0) (bare_one s (i + k) h (eqb-false b 34 (not-true (eqb b 34) y.0)) (eqb-false b 92 (not-true (eqb b 92) y.1))))
       (omega arith)
 
-  pub block_whole : (k : ℕ) → Bare s i (i + k) → 16 ≤ k → k ≤ 16 → Bare s i (i + 16)
-  block_whole k p g l = bare_to s i (i + k) (i + 16) p (omega arith)
+  -- the same, of the k-th byte of the block's slice
+  pub block_turn : (k : ℕ) (plain : Bool) → i + 16 ≤ length s → k < length (take (i + 16 - i) (drop i s)) → (plain ≡ true → Bare s i (i + k))
+      → plain && (not (eqb (get_or (take (i + 16 - i) (drop i s)) k 0) 34) && not (eqb (get_or (take (i + 16 - i) (drop i s)) k 0) 92)) ≡ true → Bare s i (i + (k + 1))
+  block_turn k plain r h p e =
+      let z : i + 16 - i ≡ 16 = omega arith in
+      let l : k < 16 = omega (arith, h, length-take (i + 16 - i) (drop i s)) in
+      let g : get_or (take (i + 16 - i) (drop i s)) k 0 ≡ get_or s (i + k) 0 = rw z (get_or-take 16 (drop i s) k 0 l ∙ get_or-drop i s k 0) in
+      block_next k plain p (omega arith) (rw g at e)
 
 -- ## Brackets, n of them open
 
@@ -131,3 +147,13 @@ module _ (s : Bytes) (i n : ℕ) where
 
   pub word_cut : length s ≤ i + n → drop n (drop i s) ≡ drop (length s) s
   word_cut h = word_on ∙ at-end s (i + n) h ∙ sym (at-end s (length s) (omega arith))
+
+-- ## What the check of a function may use
+
+pub ruleset run_rules = (bare_none, bare_then)
+
+pub ruleset string_rules = (string-spent, string-plain, string-close, string-cut, string_escape)
+
+pub ruleset bracket_rules = (skim-spent, skim-string, skim-opening, skim-closing, skim-closed, skim-on)
+
+pub ruleset word_rules = (word_on, word_cut)

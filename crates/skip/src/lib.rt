@@ -2,40 +2,35 @@
 #![tactic(auto)]
 
 ghost use Rattle.std.specs.Prelude.{◌≡◌, true, ◌+◌, ◌≤◌, length};
-ghost use Rattle.skip.specs.Skim.{Bare, Leads, StringEnd, BracketEnd, DigitsEnd, WordEnd};
+ghost use Rattle.skip.specs.Skim.{Bare, Leads, StringEnd, BracketEnd, WordEnd};
 ghost use Rattle.skip.specs.Ends.{Ends};
+
+use canonical_json::digits_end;
 
 // How many bytes of a string are looked at together.
 const BLOCK: usize = 16;
 
 // Whether the block at `at` has neither a quote nor a backslash. There is no branch on a byte, so that it compiles to vector instructions.
+#[tactic(auto, using(crate::proofs::StepLaws::block_start))]
 fn plain_block(s: &[u8], at: usize) -> bool
     requires { at + 16 ≤ length s.now }
     ensures { result ≡ true → Bare s.now at (at + 16) }
 {
     let mut plain = true;
-    let mut k: usize = 0;
-    while k < BLOCK {
-        let b = s[at + k];
-        plain = plain & (b != 34) & (b != 92);
-        k += 1;
+    for b in &s[at..at + BLOCK] {
+        plain &= (*b != b'"') & (*b != b'\\');
     }
     plain
 }
 
 // Past the plain blocks from `at` on.
+#[tactic(auto, using(crate::proofs::StepLaws::run_rules))]
 fn plain_run(s: &[u8], at: usize) -> usize
     requires { at ≤ length s.now }
     ensures { Leads s.now at result (Bare s.now at result) }
 {
     let mut i = at;
-    while i < s.len() {
-        if s.len() - i < BLOCK {
-            return i;
-        }
-        if !plain_block(s, i) {
-            return i;
-        }
+    while BLOCK <= s.len() - i && plain_block(s, i) {
         i += BLOCK;
     }
     i
@@ -52,6 +47,7 @@ pub fn bare_end(s: &[u8], at: usize) -> usize
 }
 
 // Just past the string whose opening quote stands before `at`; a backslash takes the next byte with it.
+#[tactic(auto, using(crate::proofs::StepLaws::string_rules))]
 fn string_end(s: &[u8], at: usize) -> usize
     requires { at ≤ length s.now }
     ensures { StringEnd s.now at result }
@@ -64,17 +60,17 @@ fn string_end(s: &[u8], at: usize) -> usize
         }
         if b != b'\\' {
             i += 1;
-            continue;
-        }
-        if s.len() - i < 2 {
+        } else if s.len() - i < 2 {
             return s.len();
+        } else {
+            i = plain_run(s, i + 2);
         }
-        i = plain_run(s, i + 2);
     }
     i
 }
 
 // Just past the bracket that closes the one before `at`.
+#[tactic(auto, using(crate::proofs::StepLaws::bracket_rules))]
 fn bracket_end(s: &[u8], at: usize) -> usize
     requires { at ≤ length s.now }
     ensures { BracketEnd s.now at result }
@@ -83,88 +79,45 @@ fn bracket_end(s: &[u8], at: usize) -> usize
     let mut i = at;
     while i < s.len() {
         let b = s[i];
-        let next = i + 1;
+        i += 1;
         match b {
-            b'"' => {
-                i = string_end(s, next);
-                continue;
-            }
-            b'[' | b'{' => {
-                depth += 1;
-                i = next;
-                continue;
-            }
+            b'"' => i = string_end(s, i),
+            b'[' | b'{' => depth += 1,
             b']' | b'}' => {
                 depth -= 1;
                 if depth == 0 {
-                    return next;
+                    return i;
                 }
-                i = next;
-                continue;
             }
-            _ => {
-                i = next;
-                continue;
-            }
+            _ => {}
         }
-    }
-    i
-}
-
-// Just past the digits from `at` on.
-fn digits_end(s: &[u8], at: usize) -> usize
-    requires { at ≤ length s.now }
-    ensures { DigitsEnd s.now at result }
-{
-    let mut i = at;
-    while i < s.len() {
-        let b = s[i];
-        if b < b'0' {
-            return i;
-        }
-        if b'9' < b {
-            return i;
-        }
-        i += 1;
     }
     i
 }
 
 // n bytes on, or the end of the text.
+#[tactic(auto, using(crate::proofs::StepLaws::word_rules))]
 fn word_end(s: &[u8], at: usize, n: usize) -> usize
     requires { at ≤ length s.now }
     ensures { WordEnd s.now at n result }
 {
-    if s.len() - at < n {
-        return s.len();
-    }
-    at + n
+    at + n.min(s.len() - at)
 }
 
 // Just past the value at `at`, by its first byte. Where no value stands there, any end after `at`.
+#[tactic(auto, using(crate::proofs::ValueLaws::value_rules))]
 pub fn value(s: &[u8], at: usize) -> Option<usize>
     ensures { Ends s.now at result }
 {
     if s.len() <= at {
         return None;
     }
-    let b = s[at];
     let next = at + 1;
-    match b {
-        b'"' => {
-            return Some(string_end(s, next));
-        }
-        b'[' | b'{' => {
-            return Some(bracket_end(s, next));
-        }
-        b'f' => {
-            return Some(word_end(s, next, 4));
-        }
-        b'n' | b't' => {
-            return Some(word_end(s, next, 3));
-        }
-        _ => {
-            return Some(digits_end(s, next));
-        }
-    }
+    Some(match s[at] {
+        b'"' => string_end(s, next),
+        b'[' | b'{' => bracket_end(s, next),
+        b'f' => word_end(s, next, 4),
+        b'n' | b't' => word_end(s, next, 3),
+        _ => digits_end(s, next),
+    })
 }

@@ -1,12 +1,9 @@
 -- `plain_block` meets its contract. The invariant: while no other byte was seen, the string goes on past the bytes looked at.
 use mathlib.Core.Path.{◌≡◌}
 use mathlib.Core.Bool.{true}
-use Prim.Native.Nat.{◌≤◌, ◌+◌, ◌-◌}
+use Prim.Native.Nat.{◌+◌}
 use Rattle.skip.specs.Skim.{Bare}
 use Rattle.skip.proofs.plain_block.Given as goal
 
-abbrev pub invariant-loop-k : goal.invariant-loop-k
-invariant-loop-k l = (l.k ≤ 16) × (l.plain ≡ true → Bare l.s l.at (l.at + l.k))
-
-abbrev pub decreases-loop-k : goal.decreases-loop-k
-decreases-loop-k l = 16 - l.k
+abbrev pub invariant-loop-b : goal.invariant-loop-b
+invariant-loop-b l = l.plain ≡ true → Bare l.s l.at (l.at + l.b-index)
