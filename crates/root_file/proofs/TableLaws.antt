@@ -3,9 +3,9 @@ use mathlib.Core.Path.{◌≡◌, refl, sym, ap, ◌∙◌}
 use Rattle.std.specs.declared.option.Option.{Option}
 use Rattle.std.specs.declared.option.Option.TheVariants.{None, Some}
 use Rattle.canonical_json.specs.Options.{bind}
-use mathlib.Core.Bool.{Bool, true, false, not, ◌&&◌, ◌||◌}
+use mathlib.Core.Bool.{true, false, not, ◌&&◌, ◌||◌}
 use mathlib.Core.List.{List, [], ◌∷◌, map}
-use Prim.Native.Nat.{ℕ, zero, suc, ◌+◌, ◌-◌, ◌<◌, ◌≤◌, min}
+use Prim.Native.Nat.{ℕ, zero, suc, ◌+◌, ◌-◌, ◌<◌, ◌≤◌}
 use native.Mathlib.Omega.{arith}
 use native.Mathlib.Numerals.{add-one}
 use lib.Dec.{leb}
@@ -23,7 +23,7 @@ use Rattle.rules.specs.Records as rules
 use Rattle.rules.specs.Forms.{is_in, different, key, keys}
 use Rattle.records.specs.declared.KeyTable.{KeyTable}
 use Rattle.records.specs.declared.Key.{Key}
-use Rattle.records.specs.View.{firsts, view_id, view_key, view_table, key_at, no_key}
+use Rattle.records.specs.View.{view_id, view_key, view_table, key_at, no_key}
 use Rattle.forms.proofs.ArrayLaws.{front, front-firsts}
 use Rattle.forms.specs.Each.{each_member}
 use Rattle.root_file.specs.View.{publics}

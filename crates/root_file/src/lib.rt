@@ -38,10 +38,7 @@ pub fn key_at(s: &[u8], name: usize, value: usize) -> Option<Spanned<Key>>
 {
     let keyid = forms::id_in(s, name)?;
     let m = lookup::find_members(s, value, b"keytype", b"scheme", b"keyval", b"");
-    if !forms::word_field(s, m.first, b"ed25519") {
-        return None;
-    }
-    if !forms::word_field(s, m.second, b"ed25519") {
+    if !forms::word_field(s, m.first, b"ed25519") || !forms::word_field(s, m.second, b"ed25519") {
         return None;
     }
     let public = public_field(s, m.third)?;
@@ -154,8 +151,8 @@ struct Naming {
 }
 
 // 1 to 16 keyids, each at some place of the key table and none at a place that is marked already.
-fn naming_at(s: &[u8], at: usize, table: KeyTable) -> Option<Spanned<Naming>>
-    ensures { Reads (view_naming table) s.now at (naming (view_table table)) result }
+fn naming_at(s: &[u8], at: usize, table: &KeyTable) -> Option<Spanned<Naming>>
+    ensures { Reads (view_naming table.now) s.now at (naming (view_table table.now)) result }
 {
     let mut keys: u16 = 0;
     let mut n = 0;
@@ -164,11 +161,8 @@ fn naming_at(s: &[u8], at: usize, table: KeyTable) -> Option<Spanned<Naming>>
         if records::MAX_KEYIDS <= n {
             return None;
         }
-        let places = keys::places_of(table, forms::id_at(s, i)?);
-        if places == 0 {
-            return None;
-        }
-        if keys & places != 0 {
+        let places = keys::places_of(*table, forms::id_at(s, i)?);
+        if places == 0 || keys & places != 0 {
             return None;
         }
         keys |= places;
@@ -186,8 +180,8 @@ fn naming_at(s: &[u8], at: usize, table: KeyTable) -> Option<Spanned<Naming>>
 }
 
 // "1 to 16 different keyids from the key table and a threshold from 1 to the number of those keyids".
-pub fn role_at(s: &[u8], at: usize, table: KeyTable) -> Option<Role>
-    ensures { Takes s.now at (role_kept (view_table table)) (option_map (view_role table) result) }
+pub fn role_at(s: &[u8], at: usize, table: &KeyTable) -> Option<Role>
+    ensures { Takes s.now at (role_kept (view_table table.now)) (option_map (view_role table.now) result) }
 {
     let keyids = lookup::find_member(s, at, b"keyids")?;
     let named = naming_at(s, keyids, table)?;
@@ -203,8 +197,8 @@ pub fn role_at(s: &[u8], at: usize, table: KeyTable) -> Option<Role>
     })
 }
 
-fn role_field(s: &[u8], found: Option<usize>, table: KeyTable) -> Option<Role>
-    ensures { TakesMust s.now found (role_kept (view_table table)) (option_map (view_role table) result) }
+fn role_field(s: &[u8], found: Option<usize>, table: &KeyTable) -> Option<Role>
+    ensures { TakesMust s.now found (role_kept (view_table table.now)) (option_map (view_role table.now) result) }
 {
     role_at(s, found?, table)
 }
@@ -218,8 +212,8 @@ pub struct Roles {
 }
 
 // "roles with root, timestamp, snapshot and targets"; "Other role names are passed over".
-fn roles_at(s: &[u8], at: usize, table: KeyTable) -> Option<Spanned<Roles>>
-    ensures { Reads (view_roles table) s.now at (roles_kept (view_table table)) result }
+fn roles_at(s: &[u8], at: usize, table: &KeyTable) -> Option<Spanned<Roles>>
+    ensures { Reads (view_roles table.now) s.now at (roles_kept (view_table table.now)) result }
 {
     let m = lookup::find_members(s, at, b"root", b"timestamp", b"snapshot", b"targets");
     let root = role_field(s, m.first, table)?;
@@ -268,7 +262,7 @@ pub fn root_at(s: &[u8], at: usize) -> Option<Body>
         end: keys.end,
     };
     let second = lookup::find_member_by(s, at, b"roles", known)?;
-    let roles = roles_at(s, second, keys.value)?;
+    let roles = roles_at(s, second, &keys.value)?;
     Some(Body {
         table: keys.value,
         roles: roles.value,

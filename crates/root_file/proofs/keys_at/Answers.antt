@@ -1,10 +1,6 @@
 -- `keys_at` meets its contract.
-use mathlib.Core.Path.{sym, ap, ◌∙◌, ◌≡◌}
-use mathlib.Core.Bool.{Bool}
+use mathlib.Core.Path.{sym, ap, ◌∙◌}
 use Rattle.rules.specs.Forms.{different}
-use Rattle.rules.specs.Records as rules
-use Rattle.std.specs.Prelude.{map}
-use Rattle.records.specs.View.{view_table}
 use Rattle.forms.proofs.StepLaws.{reads-none}
 use Rattle.root_file.proofs.TableLaws.{publics-of, no-table, same-publics, table_is}
 use Rattle.root_file.proofs.keys_at.Goals as goal

@@ -19,18 +19,18 @@ pub returns-in_err-snapshot : goal.returns-in_err-snapshot
 returns-in_err-snapshot c =
     let m = c.find_members-m.ensures in
     reads-none _ _ _ _ _ c.from_residual-in_err-snapshot.ensures (
-      λ v h.
-          no-snapshot_role _ v _ (c.in_ok-root.ensures _ _ m.first.means v h) _ (c.in_ok-timestamp.ensures _ _ m.second.means v h)
-          (c.in_err-snapshot.ensures _ _ m.third.means v h)
+    λ v h.
+    no-snapshot_role _ v _ (c.in_ok-root.ensures _ _ m.first.means v h) _ (c.in_ok-timestamp.ensures _ _ m.second.means v h)
+    (c.in_err-snapshot.ensures _ _ m.third.means v h)
     )
 
 pub returns-in_err-targets : goal.returns-in_err-targets
 returns-in_err-targets c =
     let m = c.find_members-m.ensures in
     reads-none _ _ _ _ _ c.from_residual-in_err-targets.ensures (
-      λ v h.
-          no-targets_role _ v _ (c.in_ok-root.ensures _ _ m.first.means v h) _ (c.in_ok-timestamp.ensures _ _ m.second.means v h)
-          _ (c.in_ok-snapshot.ensures _ _ m.third.means v h) (c.in_err-targets.ensures _ _ m.fourth.means v h)
+    λ v h.
+    no-targets_role _ v _ (c.in_ok-root.ensures _ _ m.first.means v h) _ (c.in_ok-timestamp.ensures _ _ m.second.means v h)
+    _ (c.in_ok-snapshot.ensures _ _ m.third.means v h) (c.in_err-targets.ensures _ _ m.fourth.means v h)
     )
 
 pub returns : goal.returns
