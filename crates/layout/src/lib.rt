@@ -98,7 +98,12 @@ pub extern "C" fn layout_digest(first_mark: u8, second_mark: u8) -> Two<Id>
 }
 
 #[unsafe(no_mangle)]
-pub extern "C" fn layout_look(answer: u8, start: usize, length: usize, entries: usize) -> Two<Looked>
+pub extern "C" fn layout_look(
+    answer: u8,
+    start: usize,
+    length: usize,
+    entries: usize,
+) -> Two<Looked>
     ensures { (result.first.answer ≡ answer) × (result.first.start ≡ start) × (result.first.length ≡ length) × (result.first.entries ≡ entries) × (result.second ≡ result.first) }
 {
     let one = Looked {

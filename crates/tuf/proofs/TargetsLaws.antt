@@ -41,12 +41,12 @@ use Rattle.envelope.specs.Open.{view_fault, view_read}
 use Rattle.envelope.specs.declared.Fault.{Fault}
 use Rattle.envelope.specs.declared.Signed.{Signed}
 use Rattle.envelope.proofs.ReadLaws.{read-says, read-refused}
-use Rattle.targets_file.specs.View.{Listing, found_of, listing, view_found, view_search, listed, Seen, seen, view_seen}
+use Rattle.targets_file.specs.View.{Listing, found_of, listing, view_found, view_search, view_listing, listed, Seen, seen, view_seen}
 use Rattle.targets_file.specs.declared.FoundImage.{FoundImage}
 use Rattle.targets_file.specs.declared.TargetsSeen.{TargetsSeen}
 use Rattle.targets_file.specs.declared.Search.{Search}
 use Rattle.tuf.specs.View.{view, view_image}
-use Rattle.tuf.specs.Promises.{FindsImage, NoImage, IsImage}
+use Rattle.tuf.specs.Promises.{FindsImage, NoImage}
 use Rattle.tuf.specs.declared.State.{State}
 use Rattle.tuf.specs.declared.Image as tuf
 
@@ -68,7 +68,7 @@ module _ (path file : Bytes) where
         go (says g es) p = never cc
 
   pub targets-read : (t : Signed TargetsSeen) → view_read view_seen (Ok t) ≡ kept (seen path) (targets_in file) → FileRead path file t
-  unfolding view_seen seen
+  unfolding view_seen view_listing seen
   targets-read t w =
       let d = kept-says (seen path) (targets_in file) _ _ (read-says view_seen _ t w) in
       record {
@@ -98,11 +98,11 @@ targets-after s file g version expires bytes d e = rw (d.version-is, d.expires-i
 -- what the search found, and the images that it went over
 module _ (path : Bytes) (is : List Image) (search : Search) (e : listing path is ≡ listed (view_search search)) where
   image-read : found_of (image_of path is) ≡ option_map view_found search.found
-  unfolding listing listed view_search
+  unfolding listing view_listing listed view_search
   image-read = ap (λ (x : Listing). x.image) e
 
   pub compared_is : search.compared ≡ compared path (paths is)
-  unfolding listing listed view_search
+  unfolding listing view_listing listed view_search
   compared_is = sym (ap (λ (x : Listing). x.compared) e)
 
   pub image-listed : is_some search.found ≡ not (absent (image_of path is))
@@ -157,7 +157,7 @@ pub record FindJudged (self : State) (q : Query) (t : Signed TargetsSeen) (n : �
 -- what judging promises of it
 pub find-judged : (self : State) (q : Query) (t : Signed TargetsSeen) → FileRead q.path q.file t → (digest : Bytes) → digest ≡ digest_of q.file → (n : ℕ)
     → ((p : Query) → Queried p digest q.path → (g : File (List Image)) → Lists g p.path (is_some t.signed.search.found) → (es : List Bytes)
-        → n ≡ first (find_table (view self) p g es))
+    → n ≡ first (find_table (view self) p g es))
     → FindJudged self q t n
 find-judged self q t f digest e n judge =
     record {
@@ -196,11 +196,12 @@ module _ (self : State) (q : Query) (t : Signed TargetsSeen) (n : ℕ) (j : Find
       let there : absent (image_of q.path images) ≡ false = no_line (find_table (view self) q j.read_as.targets (view_entries t.entries)) refl (j.judged_as ∙ h) 15 2 in
       image-listed q.path images search j.read_as.listing-is ∙ ap not there
 
-  pub find-found : n ≡ 0 → (r : tuf.Image) → IsImage search r → FindsImage self q (number_of r.answer) (view_image r) r.compared
-  unfolding found refuses in_targets
-  find-found h r w =
+  pub find-found : n ≡ 0 → (f : FoundImage) → search.found ≡ Some f → {m : ℕ} → m ≡ 0
+      → FindsImage self q m (record { length = f.length; digest = view_id f.digest }) search.compared
+  unfolding found refuses in_targets view_found
+  find-found h f e a =
       record {
-        answered = w.answer ∙ sym (answers-n ∙ h);
-        gives = image-is q.path images search j.read_as.listing-is (view_image r) w.gives ∙ rw (answers-n ∙ h, j.read_as.said) refl;
-        counts = w.counts ∙ counts_all (inl h);
+        answered = a ∙ sym (answers-n ∙ h);
+        gives = image-is q.path images search j.read_as.listing-is _ (ap (option_map view_found) e) ∙ rw (answers-n ∙ h, j.read_as.said) refl;
+        counts = counts_all (inl h);
       }

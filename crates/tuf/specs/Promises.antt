@@ -1,9 +1,7 @@
 -- What the library's calls promise, by the definitions of the paper.
 use Rattle.std.specs.Prelude.{◌≡◌, true, ℕ, replicate}
-use Rattle.std.specs.declared.option.Option.TheVariants.{Some}
 use Rattle.std.specs.declared.result.Result.{Result}
 use Rattle.std.specs.declared.result.Result.TheVariants.{Ok, Err}
-use Rattle.std.specs.Option.{option_map}
 use Rattle.base.specs.Bytes.{Bytes}
 use Rattle.rules.specs.Limits.{key_size}
 use Rattle.rules.specs.State.{Install, Query, Call, find, ask_key}
@@ -15,8 +13,6 @@ use Rattle.records.specs.View.{view_id}
 use Rattle.records.specs.declared.Id.{Id}
 use Rattle.state.specs.View as state
 use Rattle.state.specs.declared.State as held
-use Rattle.targets_file.specs.View.{view_found}
-use Rattle.targets_file.specs.declared.Search.{Search}
 use Rattle.tuf.specs.View.{view, view_image}
 use Rattle.tuf.specs.declared.State.{State}
 use Rattle.tuf.specs.declared.Step.{Step}
@@ -57,12 +53,6 @@ pub record NoImage (n compared : ℕ) (r : Image) : Type 0 where
   pub answer : number_of r.answer ≡ n
   pub zeros : view_image r ≡ nothing_found
   pub counts : r.compared ≡ compared
-
--- the image that a search found
-pub record IsImage (search : Search) (r : Image) : Type 0 where
-  pub answer : number_of r.answer ≡ 0
-  pub gives : option_map view_found search.found ≡ Some (view_image r)
-  pub counts : r.compared ≡ search.compared
 
 -- ## Key
 

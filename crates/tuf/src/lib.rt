@@ -2,7 +2,7 @@
 // returns the answer with the next state; a refusal returns the state that it was given. No call asks anything of its caller.
 #![tactic(auto)]
 
-ghost use Rattle.std.specs.Prelude.{◌≡◌, ◌+◌, IsSome};
+ghost use Rattle.std.specs.Prelude.{◌≡◌, ◌+◌};
 ghost use Rattle.sha256.specs.Message.{digest_of};
 ghost use Rattle.rules.specs.State.{blank as blank_state, new_cycle, new_root, new_timestamp, new_snapshot, new_targets};
 ghost use Rattle.rules.specs.Steps.{Began};
@@ -12,14 +12,13 @@ ghost use Rattle.records.specs.View.{view_id};
 ghost use Rattle.state.specs.Told.{Tells};
 ghost use Rattle.inspect.specs.View.{view_look, view_entry_read};
 ghost use Rattle.tuf.specs.View.{view, view_image};
-ghost use Rattle.tuf.specs.Promises.{Steps, Decides, DecidesInstall, Hands, NoImage, IsImage, FindsImage, DecidesKey, Gives, GivesKey};
+ghost use Rattle.tuf.specs.Promises.{Steps, Decides, DecidesInstall, Hands, NoImage, FindsImage, DecidesKey, Gives, GivesKey};
 
 use answers::{Answer, Refusal};
 use date::Time;
 use inspect::{EntryRead, Looked};
 use records::{Id, Targets};
 use state::Versions;
-use targets_file::Search;
 
 // ---- The state, and what the calls give back
 
@@ -119,7 +118,15 @@ impl State {
         let search = read.signed.search;
         let digest = sha256::digest(file);
         match judge::judge_find(self.trusted, &digest, path, search.found.is_some()) {
-            Ok(()) => image_of(search),
+            Ok(()) => {
+                let found = search.found.unwrap();
+                Image {
+                    answer: Ok(()),
+                    length: found.length,
+                    digest: found.digest,
+                    compared: search.compared,
+                }
+            }
             Err(Refusal::NotListed) => no_image(Refusal::NotListed, search.compared),
             Err(refusal) => no_image(refusal, 0),
         }
@@ -170,14 +177,7 @@ impl State {
         let read = snapshot_file::read_snapshot(file)?;
         let size = wide(file.len());
         let digest = sha256::digest(file);
-        judge::judge_snapshot(
-            self.trusted,
-            read.signed,
-            read.entries,
-            row,
-            size,
-            &digest,
-        )?;
+        judge::judge_snapshot(self.trusted, read.signed, read.entries, row, size, &digest)?;
         Ok(self.trusted.with_snapshot(read.signed))
     }
 
@@ -198,11 +198,13 @@ impl State {
             size,
             &bytes,
         )?;
-        Ok(self.trusted.with_targets(Targets {
-            version,
-            expires,
-            digest: Id { bytes },
-        }))
+        Ok(
+            self.trusted.with_targets(Targets {
+                version,
+                expires,
+                digest: Id { bytes },
+            }),
+        )
     }
 
     fn listed_key(self, keyid: &[u8]) -> Result<Id, Refusal>
@@ -255,10 +257,16 @@ pub fn digest(bytes: &[u8]) -> Id
 pub fn check_image(listed: u64, digest: &[u8], fetched: u64, hash: &[u8]) -> Answer
     ensures { number_of result ≡ image_answer (record { length = listed; digest = digest.now }) (record { length = fetched; digest = hash.now }) }
 {
-    if judge::is_bad_digest(digest) || judge::is_bad_digest(hash) {
+    if judge::is_bad_digest(digest) {
         return Err(Refusal::BadArgument);
     }
-    if listed != fetched || !base::same(digest, hash) {
+    if judge::is_bad_digest(hash) {
+        return Err(Refusal::BadArgument);
+    }
+    if listed != fetched {
+        return Err(Refusal::OtherContent);
+    }
+    if !base::same(digest, hash) {
         return Err(Refusal::OtherContent);
     }
     Ok(())
@@ -304,22 +312,6 @@ fn no_image(refusal: Refusal, compared: usize) -> Image
         length: 0,
         digest: Id { bytes: [0u8; 32] },
         compared,
-    }
-}
-
-// The image of a search that found one.
-fn image_of(search: Search) -> Image
-    requires { IsSome search.found }
-    ensures { IsImage search result }
-{
-    match search.found {
-        Some(found) => Image {
-            answer: Ok(()),
-            length: found.length,
-            digest: found.digest,
-            compared: search.compared,
-        },
-        None => unreachable!(),
     }
 }
 
