@@ -304,11 +304,11 @@ fn wide(n: usize) -> u64
     n as u64
 }
 
-fn no_image(refusal: Refusal, compared: usize) -> Image
-    ensures { NoImage (refusal_number refusal) compared result }
+fn no_image(why: Refusal, compared: usize) -> Image
+    ensures { NoImage (refusal_number why) compared result }
 {
     Image {
-        answer: Err(refusal),
+        answer: Err(why),
         length: 0,
         digest: Id { bytes: [0u8; 32] },
         compared,
