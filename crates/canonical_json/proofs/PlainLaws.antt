@@ -1,12 +1,12 @@
 -- Plain bytes of a string, many at a time: the string ends where it ends when it is read from behind them.
-use mathlib.Core.Path.{◌≡◌, refl, sym, ap, subst, ◌∙◌}
+use mathlib.Core.Path.{◌≡◌, ap, ◌∙◌}
 use mathlib.Core.List.{◌∷◌}
-use mathlib.Core.Bool.{Bool, true, false, not, ◌&&◌}
+use mathlib.Core.Bool.{true, not, ◌&&◌}
 use Prim.Native.Nat.{ℕ, zero, suc, ◌≤◌, ◌<◌, ◌+◌}
 use native.Mathlib.Omega.{arith}
 use lib.ListN.{length, drop, get_or}
 use lib.Dec.{ltb, eqb}
-use borrow.Author.Tests.{ltb-true, ltb-false, eqb-false, not-true}
+use borrow.Author.Tests.{ltb-true, eqb-false, not-true}
 use Rattle.base.specs.Bytes.{Bytes}
 use Rattle.base.proofs.TestLaws.{both}
 use Rattle.base.proofs.PlaceLaws.{at-cons}
@@ -14,17 +14,6 @@ use Rattle.canonical_json.specs.Read.{end_of, read_str, raw}
 use Rattle.canonical_json.specs.Strings.{plain, PlainRun}
 use Rattle.canonical_json.proofs.Chars as strings
 use Rattle.canonical_json.proofs.NameLaws.{raw-plain}
-
--- a run with one byte more
-pub plain_more : (s : Bytes) (i k : ℕ) (all one : Bool) → one ≡ plain (get_or s (i + k) 0) → (all ≡ true → PlainRun s i k) → all && one ≡ true → PlainRun s i (k + 1)
-plain_more s i k all one e f h j l = go (ltb j k) refl
-  where
-    go : (x : Bool) → ltb j k ≡ x → plain (get_or s (i + j) 0) ≡ true
-    go true t = f (both all one h).0 j (ltb-true j k t)
-    go false t =
-        let at : k ≤ j = ltb-false j k t in
-        let same : k ≡ j = omega (arith, at, l) in
-        subst (λ (m : ℕ). plain (get_or s (i + m) 0) ≡ true) same (sym e ∙ (both all one h).1)
 
 -- a plain byte is passed over
 plain-one : (s : Bytes) (i : ℕ) → i < length s → plain (get_or s i 0) ≡ true → end_of (length s) (read_str (drop i s)) ≡ end_of (length s) (read_str (drop (i + 1) s))

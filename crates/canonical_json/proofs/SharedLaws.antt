@@ -1,28 +1,17 @@
 -- Plain bytes that two names share, many at a time: the names compare as they do from behind them on.
-use mathlib.Core.Path.{◌≡◌, refl, sym, ap, subst, ◌∙◌}
-use mathlib.Core.Bool.{Bool, true, false, ◌&&◌}
+use mathlib.Core.Path.{◌≡◌, ap, ◌∙◌}
+use mathlib.Core.Bool.{true}
 use Prim.Native.Nat.{ℕ, zero, suc, ◌≤◌, ◌<◌, ◌+◌}
 use native.Mathlib.Omega.{arith}
 use lib.ListN.{length, drop, get_or}
-use lib.Dec.{ltb, eqb}
-use borrow.Author.Tests.{ltb-true, ltb-false, eqb-true}
+use lib.Dec.{eqb}
+use borrow.Author.Tests.{eqb-true}
 use Rattle.base.specs.Bytes.{Bytes, less}
 use Rattle.base.proofs.TestLaws.{both}
 use Rattle.canonical_json.specs.Read.{raw}
 use Rattle.canonical_json.specs.Strings.{plain, shared, SharedRun}
 use Rattle.canonical_json.proofs.NameLaws.{less-same}
 use Rattle.canonical_json.proofs.PlainLaws.{raw-first}
-
--- a run with one byte more
-pub shared-more : (s : Bytes) (i j k : ℕ) (all one : Bool) → one ≡ shared (get_or s (i + k) 0) (get_or s (j + k) 0) → (all ≡ true → SharedRun s i j k) → all && one ≡ true → SharedRun s i j (k + 1)
-shared-more s i j k all one e f h n l = go (ltb n k) refl
-  where
-    go : (x : Bool) → ltb n k ≡ x → shared (get_or s (i + n) 0) (get_or s (j + n) 0) ≡ true
-    go true t = f (both all one h).0 n (ltb-true n k t)
-    go false t =
-        let at : k ≤ n = ltb-false n k t in
-        let same : k ≡ n = omega (arith, at, l) in
-        subst (λ (m : ℕ). shared (get_or s (i + m) 0) (get_or s (j + m) 0) ≡ true) same (sym e ∙ (both all one h).1)
 
 shared-one : (s : Bytes) (i j : ℕ) → i < length s → j < length s → shared (get_or s i 0) (get_or s j 0) ≡ true
     → less (raw (drop i s)) (raw (drop j s)) ≡ less (raw (drop (i + 1) s)) (raw (drop (j + 1) s))

@@ -190,13 +190,13 @@ fn digit_count(s: &[u8]) -> usize
     s.iter().take_while(|b| b.is_ascii_digit()).count()
 }
 
-// Past the digits at `at`.
+// Past the digits at `at`; the end of the text where none is left there.
 #[tactic(auto, using(crate::proofs::Numbers::digits_rules))]
 pub fn digits_end(s: &[u8], at: usize) -> usize
-    requires { at ≤ length s.now }
     ensures { end_of (length s.now) (digits_of (drop at s.now)) ≡ Some result }
 {
-    at + digit_count(&s[at..])
+    let from = at.min(s.len());
+    from + digit_count(&s[from..])
 }
 
 // The digits of a number, after its minus where there is one.
