@@ -38,9 +38,9 @@ module _ (s : Bytes) where
   left-nth n (items-end t) = refl
   left-nth {rest} n (items_at {v = v} {vs = vs} t g) = (v, vs, (rest, items_at t g), refl)
 
-  pub nth-first : {p : ℕ} (e : Element) → FirstElement s p e → (n : ℕ) (v : Json) → Stands s p v → NthLeft s e n (element_at n v)
+  pub nth-first : {p : ℕ} (e : Element) → FirstElement s p e → (n m : ℕ) → m ≡ n → (v : Json) → Stands s p v → NthLeft s e m (element_at n v)
   unfolding element_at bind
-  nth-first e w n v h = go (items v) (w.means v h)
+  nth-first e w n m k v h = rw k (go (items v) (w.means v h))
     where
       go : (o : Option Items) → ItemsOf s h.rest e o → NthLeft s e n (o >>= λ xs. nth n (elements xs))
       go None q = rw q refl

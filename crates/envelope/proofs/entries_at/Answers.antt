@@ -24,7 +24,7 @@ loop-e-init c =
 pub returns-then-n-ge-MAX_ENTRIES : goal.returns-then-n-ge-MAX_ENTRIES
 returns-then-n-ge-MAX_ENTRIES c =
     let l = c.loop-e in
-    broken-entries _ _ (λ v h. items-full keyid_of 0 max_entries _ l.e l.n (front view_id no_id l.ids l.n) _ (l.invariant.3 v h) _ c.in-At.is c.if-n-ge-MAX_ENTRIES.true)
+    broken-entries _ _ (λ v h. items-full keyid_of 0 max_entries _ l.e l.n (front view_id no_id l.ids l.n) _ (l.invariant.3 v h) _ c.in-At.is (omega arith))
 
 pub returns-in_err-entry-in-At : goal.returns-in_err-entry-in-At
 returns-in_err-entry-in-At c =

@@ -1,10 +1,9 @@
 use native.Mathlib.Omega.{arith}
-use Rattle.std.proofs.Math.Nat.{sub-zero}
 use Rattle.inspect.proofs.ElementLaws.{nth-first, nth-over, nth_here, nth-next}
 use Rattle.inspect.proofs.nth_element.Goals as goal
 
 pub loop-init : goal.loop-init
-loop-init c = rw sub-zero (nth-first c.args.s.now _ c.first_element-e.ensures _)
+loop-init c = nth-first c.args.s.now _ c.first_element-e.ensures _ _ (omega arith)
 
 pub returns-in_default : goal.returns-in_default
 returns-in_default c =
