@@ -2,7 +2,7 @@
 use mathlib.Core.Path.{◌≡◌, refl}
 use mathlib.Core.Bool.{Bool, true}
 use mathlib.Core.List.{List}
-use Prim.Native.Nat.{ℕ, ◌≤◌, min}
+use Prim.Native.Nat.{ℕ, ◌<◌, ◌≤◌, min}
 use native.Mathlib.Omega.{arith}
 use lib.Dec.{leb}
 use borrow.Author.Tests.{leb-true}
@@ -13,7 +13,9 @@ use Rattle.rules.specs.Table.{Refusal, first}
 use Rattle.rules.specs.Steps.{install_table, cycle_table, root_table, timestamp_table, snapshot_table, targets_table, find_table, key_table, fault_number, judged, install_answer, answer}
 use Rattle.rules.specs.Asked.{Found, image_table, image_answer}
 use Rattle.rules.proofs.TableLaws.{every, first-every}
-use Rattle.answers.specs.Number.{highest}
+use Rattle.answers.specs.Number.{highest, refusal_number}
+use Rattle.answers.specs.declared.Refusal as answers
+use Rattle.answers.specs.declared.Refusal.TheVariants.{TooLong, NotText, BadForm, OtherSpec, BadArgument, NotHeld, HeldExpired, OtherContent, FewHeldKeys, FewOwnKeys, WrongVersion, NoNews, WentBack, FileExpired, NotListed, OtherKeyid, EarlierStart}
 
 -- no line has a number above it
 abbrev below : List Refusal → Bool
@@ -58,3 +60,23 @@ image-most listed fetched = first-most (image_table listed fetched) refl
 -- a number with its name is itself
 pub named : {a n m : ℕ} → a ≡ min n highest → n ≡ m → m ≤ highest → a ≡ m
 named e f h = omega arith
+
+-- no refusal has the number of none
+pub positive : (r : answers.Refusal) → 0 < refusal_number r
+positive TooLong = omega arith
+positive NotText = omega arith
+positive BadForm = omega arith
+positive OtherSpec = omega arith
+positive BadArgument = omega arith
+positive NotHeld = omega arith
+positive HeldExpired = omega arith
+positive OtherContent = omega arith
+positive FewHeldKeys = omega arith
+positive FewOwnKeys = omega arith
+positive WrongVersion = omega arith
+positive NoNews = omega arith
+positive WentBack = omega arith
+positive FileExpired = omega arith
+positive NotListed = omega arith
+positive OtherKeyid = omega arith
+positive EarlierStart = omega arith

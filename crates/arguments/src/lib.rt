@@ -1,13 +1,16 @@
 // The arguments of a line. The bytes of all of them stand one behind another in one buffer.
 #![tactic(auto)]
 
-ghost use Rattle.std.specs.Prelude.{◌≤◌, length, IfOk};
+ghost use Rattle.std.specs.Prelude.{◌≤◌, length, IfOk, Some};
+ghost use Rattle.arguments.specs.Reasons.{reason};
 
 use date::Time;
+use std::error::Error;
 use std::fs::File;
-use std::io;
 use std::io::Read;
 use std::rt::Files;
+use std::str::Utf8Error;
+use std::{fmt, io};
 
 // The most arguments that a call has.
 pub const ARGUMENTS: usize = 4;
@@ -16,76 +19,83 @@ pub const ARGUMENTS: usize = 4;
 const ARGUMENT: usize = 1048577;
 
 // What is wrong with a line.
-#[derive(Clone, Copy)]
+#[derive(Clone, Copy, Debug, PartialEq, Eq)]
 pub enum Problem {
-    None,
     Call,
     Words,
     Bytes,
     Unopened,
     TooMany,
     Number,
+    TooLong,
 }
 
-// An argument is bytes, those of the buffer from `from` up to `to`, or a number, or a time.
+impl fmt::Display for Problem {
+    ghost output = { λ p. Some (reason p) };
+
+    fn fmt<W: fmt::Write>(&self, f: &mut fmt::Formatter<W>) -> fmt::Result {
+        match self {
+            Problem::Call => write!(f, "unknown call"),
+            Problem::Words => write!(f, "wrong number of words"),
+            Problem::Bytes => write!(f, "bad bytes"),
+            Problem::Unopened => write!(f, "cannot open the file"),
+            Problem::TooMany => write!(f, "too many bytes"),
+            Problem::Number => write!(f, "bad number"),
+            Problem::TooLong => write!(f, "line too long"),
+        }
+    }
+}
+
+impl Error for Problem {}
+
+// A file that cannot be opened, or not be read.
+impl From<io::Error> for Problem {
+    fn from(_e: io::Error) -> Problem {
+        Problem::Unopened
+    }
+}
+
+// A name that is not UTF-8 opens no file.
+impl From<Utf8Error> for Problem {
+    fn from(_e: Utf8Error) -> Problem {
+        Problem::Unopened
+    }
+}
+
+// What an argument is read as.
 #[derive(Clone, Copy)]
-pub struct Argument {
-    pub problem: Problem,
-    pub from: usize,
-    pub to: usize,
-    pub number: u64,
-    pub time: Time,
+pub enum Kind {
+    Bytes,
+    Number,
+    Time,
 }
 
+// An argument: bytes, those of the buffer from `from` up to `to`, or a number, or a time.
 #[derive(Clone, Copy)]
-pub struct Arguments {
-    pub problem: Problem,
-    pub all: [Argument; 4],
+pub enum Argument {
+    Bytes { from: usize, to: usize },
+    Number(u64),
+    Time(Time),
 }
 
-pub fn is_wrong(problem: Problem) -> bool {
-    match problem {
-        Problem::None => false,
-        _ => true,
-    }
-}
-
-// ---- Bytes
-
-// The first `length` bytes of a buffer.
+// The arguments of a line, and the buffer that their bytes stand in.
 #[derive(Clone, Copy)]
-struct Unpacked {
-    problem: Problem,
-    length: usize,
+pub struct Arguments<'b> {
+    bytes: &'b [u8],
+    all: [Argument; ARGUMENTS],
 }
 
-fn bad(problem: Problem) -> Unpacked
-    ensures { result.length ≤ 0 }
-{
-    Unpacked { problem, length: 0 }
-}
+// ---- Bytes: how many there are now in the first places of a buffer
 
-fn good(length: usize) -> Unpacked
-    ensures { result.length ≤ length }
+fn copy_in(from: &[u8], to: &mut [u8]) -> Result<usize, Problem>
+    ensures { IfOk result (λ n. n ≤ length to.new) }
 {
-    Unpacked {
-        problem: Problem::None,
-        length,
+    let n = from.len();
+    if to.len() < n {
+        return Err(Problem::TooMany);
     }
-}
-
-fn copy_in(from: &[u8], to: &mut [u8]) -> Unpacked
-    ensures { result.length ≤ length to.new }
-{
-    if to.len() < from.len() {
-        return bad(Problem::TooMany);
-    }
-    let mut i = 0;
-    while i < from.len() {
-        to[i] = from[i];
-        i += 1;
-    }
-    good(i)
+    to[..n].copy_from_slice(from);
+    Ok(n)
 }
 
 // Reads until the buffer is full or the file ends; how many bytes came. An `Err` leaves those that came before it.
@@ -104,194 +114,141 @@ fn read_full(file: &mut impl Read, to: &mut [u8]) -> io::Result<usize>
 }
 
 // Reads the whole of an open file, unless it fills the buffer: then it may have more.
-fn read_in(file: &mut impl Read, to: &mut [u8]) -> Unpacked
-    ensures { result.length ≤ length to.new }
+fn read_in(file: &mut impl Read, to: &mut [u8]) -> Result<usize, Problem>
+    ensures { IfOk result (λ n. n ≤ length to.new) }
 {
-    match read_full(file, to) {
-        Err(_) => bad(Problem::Unopened),
-        Ok(n) => {
-            if n == to.len() {
-                return bad(Problem::TooMany);
-            }
-            good(n)
-        }
+    let n = read_full(file, to)?;
+    if n == to.len() {
+        return Err(Problem::TooMany);
     }
+    Ok(n)
 }
 
-// A name that is not UTF-8 opens no file.
-fn file_in(rt: &impl Files, name: &[u8], to: &mut [u8]) -> Unpacked
-    ensures { result.length ≤ length to.new }
+fn file_in(rt: &impl Files, name: &[u8], to: &mut [u8]) -> Result<usize, Problem>
+    ensures { IfOk result (λ n. n ≤ length to.new) }
 {
-    let Ok(path) = str::from_utf8(name) else {
-        return bad(Problem::Unopened);
-    };
-    match File::open(rt, path) {
-        Err(_) => bad(Problem::Unopened),
-        Ok(mut file) => read_in(&mut file, to),
-    }
+    let mut file = File::open(rt, str::from_utf8(name)?)?;
+    read_in(&mut file, to)
 }
 
-fn hex_in(digits: &[u8], to: &mut [u8]) -> Unpacked
-    ensures { result.length ≤ length to.new }
+fn hex_in(digits: &[u8], to: &mut [u8]) -> Result<usize, Problem>
+    ensures { IfOk result (λ n. n ≤ length to.new) }
 {
     let n = digits.len() / 2;
     if n == 0 {
-        return bad(Problem::Bytes);
+        return Err(Problem::Bytes);
     }
     if to.len() < n {
-        return bad(Problem::TooMany);
+        return Err(Problem::TooMany);
     }
     if base::undo_hex(digits, &mut to[..n]) {
-        return good(n);
+        Ok(n)
+    } else {
+        Err(Problem::Bytes)
     }
-    bad(Problem::Bytes)
 }
 
 // Hex, `-` for no bytes, `'` and the bytes themselves, or `@` and the name of a file that has them.
-fn unpack(rt: &impl Files, word: &[u8], to: &mut [u8]) -> Unpacked
-    ensures { result.length ≤ length to.new }
+fn unpack(rt: &impl Files, word: &[u8], to: &mut [u8]) -> Result<usize, Problem>
+    ensures { IfOk result (λ n. n ≤ length to.new) }
 {
-    if word.len() == 0 {
-        return bad(Problem::Bytes);
-    }
-    match word[0] {
-        b'\'' => {
-            return copy_in(&word[1..], to);
-        }
-        b'@' => {
-            return file_in(rt, &word[1..], to);
-        }
-        b'-' => {
-            if word.len() == 1 {
-                return good(0);
-            }
-            return bad(Problem::Bytes);
-        }
-        _ => {
-            return hex_in(word, to);
-        }
+    match word {
+        [b'\'', text @ ..] => copy_in(text, to),
+        [b'@', name @ ..] => file_in(rt, name, to),
+        [b'-'] => Ok(0),
+        [b'-', ..] => Err(Problem::Bytes),
+        _ => hex_in(word, to),
     }
 }
 
 // ---- One argument
 
-fn wrong(problem: Problem, at: usize) -> Argument {
-    Argument {
-        problem,
-        from: at,
-        to: at,
-        number: 0,
-        time: Time { seconds: 0 },
-    }
-}
-
-fn bytes_at(rt: &impl Files, word: &[u8], bytes: &mut [u8], at: usize) -> Argument {
+// Its bytes go into the buffer from `at` on.
+fn bytes_at(
+    rt: &impl Files,
+    word: &[u8],
+    bytes: &mut [u8],
+    at: usize,
+) -> Result<Argument, Problem> {
     if bytes.len() < at {
-        return wrong(Problem::TooMany, at);
+        return Err(Problem::TooMany);
     }
-    let room = script::least(bytes.len() - at, ARGUMENT);
-    let unpacked = unpack(rt, word, &mut bytes[at..at + room]);
-    let problem = unpacked.problem;
-    Argument {
-        problem,
+    let room = (bytes.len() - at).min(ARGUMENT);
+    let n = unpack(rt, word, &mut bytes[at..at + room])?;
+    Ok(Argument::Bytes {
         from: at,
-        to: at + unpacked.length,
-        number: 0,
-        time: Time { seconds: 0 },
-    }
+        to: at + n,
+    })
 }
 
-fn number_of(word: &[u8], at: usize) -> Argument {
-    let read = script::read_number(word);
-    if !read.ok {
-        return wrong(Problem::Number, at);
-    }
-    Argument {
-        problem: Problem::None,
-        from: at,
-        to: at,
-        number: read.value,
-        time: Time { seconds: 0 },
-    }
-}
-
-fn time_of(word: &[u8], at: usize) -> Argument {
-    let read = script::read_time(word);
-    if !read.ok {
-        return wrong(Problem::Number, at);
-    }
-    let time = read.time;
-    Argument {
-        problem: Problem::None,
-        from: at,
-        to: at,
-        number: 0,
-        time,
-    }
-}
-
-// An argument of a kind: b for bytes, n for a number, t for a time. Its bytes go into the buffer from `at` on.
-fn read_one(rt: &impl Files, kind: u8, word: &[u8], bytes: &mut [u8], at: usize) -> Argument {
+fn read_one(
+    rt: &impl Files,
+    kind: Kind,
+    word: &[u8],
+    bytes: &mut [u8],
+    at: usize,
+) -> Result<Argument, Problem> {
     match kind {
-        b'b' => {
-            return bytes_at(rt, word, bytes, at);
-        }
-        b'n' => {
-            return number_of(word, at);
-        }
-        _ => {
-            return time_of(word, at);
-        }
+        Kind::Bytes => bytes_at(rt, word, bytes, at),
+        Kind::Number => script::read_number(word)
+            .map(Argument::Number)
+            .ok_or(Problem::Number),
+        Kind::Time => script::read_time(word)
+            .map(Argument::Time)
+            .ok_or(Problem::Number),
     }
 }
 
 // ---- All of them
 
-pub fn none(problem: Problem) -> Arguments {
-    let nothing = wrong(problem, 0);
-    Arguments {
-        problem,
-        all: [nothing; 4],
-    }
-}
-
 // The words behind the first of a line, by their kinds.
-pub fn read(rt: &impl Files, kinds: &[u8], line: &[u8], bytes: &mut [u8]) -> Arguments {
+pub fn read<'b>(
+    rt: &impl Files,
+    kinds: &[Kind],
+    line: &[u8],
+    bytes: &'b mut [u8],
+) -> Result<Arguments<'b>, Problem> {
     if script::words(line) != kinds.len() + 1 {
-        return none(Problem::Words);
+        return Err(Problem::Words);
     }
-    let mut read = none(Problem::None);
+    // a 0 where there is no argument
+    let mut all = [Argument::Number(0); ARGUMENTS];
     let mut at = 0;
-    let mut i = 0;
-    while i < ARGUMENTS {
-        if kinds.len() <= i {
-            return read;
+    for (i, kind) in kinds.iter().enumerate().take(ARGUMENTS) {
+        let one = read_one(rt, *kind, script::word(line, i + 1), bytes, at)?;
+        if let Argument::Bytes { to, .. } = one {
+            at = to;
         }
-        let one = read_one(rt, kinds[i], script::word(line, i + 1), bytes, at);
-        let problem = one.problem;
-        if is_wrong(problem) {
-            return none(problem);
-        }
-        read.all[i] = one;
-        at = one.to;
-        i += 1;
+        all[i] = one;
     }
-    read
+    Ok(Arguments { bytes, all })
 }
 
-// The bytes of argument k; none where it has none.
-pub fn part(bytes: &[u8], a: Arguments, k: usize) -> &[u8] {
-    if ARGUMENTS <= k {
-        return &bytes[0..0];
+impl<'b> Arguments<'b> {
+    // The bytes of argument k; none where it has none.
+    pub fn part(&self, k: usize) -> &'b [u8] {
+        let bytes = self.bytes;
+        match self.all.get(k) {
+            Some(Argument::Bytes { from, to }) if *from <= *to && *to <= bytes.len() => {
+                &bytes[*from..*to]
+            }
+            _ => &bytes[..0],
+        }
     }
-    let one = a.all[k];
-    let from = one.from;
-    let to = one.to;
-    if to < from {
-        return &bytes[0..0];
+
+    // The number that argument k is; 0 where it is none.
+    pub fn number(&self, k: usize) -> u64 {
+        match self.all.get(k) {
+            Some(Argument::Number(n)) => *n,
+            _ => 0,
+        }
     }
-    if bytes.len() < to {
-        return &bytes[0..0];
+
+    // The time that argument k is; 0 where it is none.
+    pub fn time(&self, k: usize) -> Time {
+        match self.all.get(k) {
+            Some(Argument::Time(t)) => *t,
+            _ => Time { seconds: 0 },
+        }
     }
-    &bytes[from..to]
 }

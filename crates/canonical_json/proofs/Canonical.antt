@@ -51,3 +51,6 @@ verdict-end d s e h = (
   λ z. to_canonical d s (h ∙ ap Some (eqb-true e (length s) z)),
   λ c. let k = of_canonical d s c in let j : e ≡ length s = cc in eq-eqb e (length s) j,
 )
+
+-- what the check of `is_canonical` may use
+pub ruleset verdict_rules = (verdict-no, verdict-end)

@@ -1,12 +1,13 @@
 -- One turn of the reading of a string, at a place of the text.
 use mathlib.Core.Path.{◌≡◌, refl, sym, ◌∙◌}
 use mathlib.Core.List.{[], ◌∷◌}
-use mathlib.Core.Bool.{true, ◌||◌}
-use Prim.Native.Nat.{ℕ, zero, suc, ◌≤◌, ◌<◌, ◌+◌, ◌-◌}
+use mathlib.Core.Logic.{◌⊎◌, inl, inr}
+use mathlib.Core.Bool.{true, ◌||◌, and-false}
+use Prim.Native.Nat.{ℕ, zero, suc, ◌≤◌, ◌<◌, ◌+◌}
 use native.Mathlib.Omega.{arith}
-use native.Mathlib.Numerals.{sub-one}
+use native.Mathlib.Numerals.{add-one}
 use lib.ListN.{length, drop, get_or}
-use lib.Dec.{eqb}
+use lib.Dec.{eqb, leb}
 use borrow.Author.Tests.{ne_eqb, le-leb, lt-leb}
 use Rattle.base.specs.Bytes.{Bytes}
 use Rattle.base.proofs.PlaceLaws.{at-cons, at-end}
@@ -92,20 +93,26 @@ module _ (s : Bytes) (i : ℕ) where
 
 -- inside a character, of which m bytes are to come
 module _ (s : Bytes) (i : ℕ) (h : i < length s) where
-  pub low : (m lo hi : ℕ) → 0 < m → get_or s i 0 < lo → end_of (length s) (chars (drop i s) m lo hi) ≡ None
-  low zero lo hi z f = absurd (omega arith)
-  low (suc m) lo hi z f = rw (at-cons s i h, chars-more, lt-leb lo (get_or s i 0) f)
+  pub onward : (m n lo hi : ℕ) → m ≡ n + 1 → lo ≤ get_or s i 0 → get_or s i 0 ≤ hi → end_of (length s) (chars (drop i s) m lo hi) ≡ end_of (length s) (chars (drop (i + 1) s) n 128 191)
+  onward m n lo hi z f g = rw (z, add-one, at-cons s i h, chars-more, le-leb lo (get_or s i 0) f, le-leb (get_or s i 0) hi g) (grown (length s) (get_or s i 0) (chars (drop (i + 1) s) n 128 191))
 
-  pub high : (m lo hi : ℕ) → 0 < m → lo ≤ get_or s i 0 → hi < get_or s i 0 → end_of (length s) (chars (drop i s) m lo hi) ≡ None
-  high zero lo hi z f g = absurd (omega arith)
-  high (suc m) lo hi z f g = rw (at-cons s i h, chars-more, le-leb lo (get_or s i 0) f, lt-leb (get_or s i 0) hi g)
-
-  pub onward : (m lo hi : ℕ) → 0 < m → lo ≤ get_or s i 0 → get_or s i 0 ≤ hi → end_of (length s) (chars (drop i s) m lo hi) ≡ end_of (length s) (chars (drop (i + 1) s) (m - 1) 128 191)
-  onward zero lo hi z f g = absurd (omega arith)
-  onward (suc m) lo hi z f g = rw (at-cons s i h, chars-more, le-leb lo (get_or s i 0) f, le-leb (get_or s i 0) hi g, sub-one) (grown (length s) (get_or s i 0) (chars (drop (i + 1) s) m 128 191))
+  pub outside : (m lo hi : ℕ) → 0 < m → (get_or s i 0 < lo) ⊎ (hi < get_or s i 0) → end_of (length s) (chars (drop i s) m lo hi) ≡ None
+  outside zero lo hi z f = absurd (omega arith)
+  outside (suc m) lo hi z (inl f) = rw (at-cons s i h, chars-more, lt-leb lo (get_or s i 0) f)
+  outside (suc m) lo hi z (inr f) = rw (at-cons s i h, chars-more, lt-leb (get_or s i 0) hi f, and-false (leb lo (get_or s i 0)))
 
 -- ## What one function passed on is passed on by another
 
 pub skips_from : (s : Bytes) (g h : Got (Bytes)) (k : ℕ) (r : Option ℕ) → end_of (length s) g ≡ end_of (length s) h → Skips s h k r → Skips s g k r
 skips_from s g h k None e p = e ∙ p
 skips_from s g h k (Some j) e p = (e ∙ p.0, p.1)
+
+-- ## What the check of `escape_end` may use, of `tail_end`, of `char_end` and of `string`
+
+pub ruleset escape_rules = (lone, escaped, stray)
+
+pub ruleset tail_rules = (over, outside, onward, spent)
+
+pub ruleset char_rules = (skips_from, backslash, control, plain, no_lead, begun)
+
+pub ruleset string_rules = (quote, over)

@@ -4,6 +4,7 @@ pub mod Place
 pub mod Chars
 pub mod Cases
 pub mod Rest
+pub mod NumberLaws
 pub mod Words
 pub mod Loops
 pub mod Values
@@ -14,7 +15,6 @@ pub mod NameLaws
 pub mod PlainLaws
 pub mod SharedLaws
 pub mod Members
-pub mod NumberLaws
 pub mod Puts
 pub mod Sound
 pub mod Complete

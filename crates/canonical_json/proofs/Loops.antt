@@ -9,7 +9,7 @@ use borrow.Author.Tests.{eq-eqb, ne_eqb}
 use Rattle.base.specs.Bytes.{Bytes}
 use Rattle.base.proofs.PlaceLaws.{at-cons, at-end}
 use Rattle.canonical_json.specs.Json.{Json, Items, inil, icons, Members, mnil}
-use Rattle.canonical_json.specs.Read.{Got, bad, got, end_of, also, then, front, choose, loop, elements, body, item, same, Member, member, named, mcons', read}
+use Rattle.canonical_json.specs.Read.{Got, bad, got, end_of, also, then, front, choose, loop, elements, body, item, same, Member, member, named, mcons', read, array}
 use Rattle.std.specs.declared.option.Option.TheVariants.{None, Some}
 use Rattle.canonical_json.proofs.Place.{ends_at, ends-also}
 use Rattle.canonical_json.proofs.Rest.{Fits, Located, located, refused, elements-step, read_fits, member-fits}
@@ -113,3 +113,37 @@ module _ {P A B : Type 0} (l : Shape P A B) (s : Bytes) (p : P) where
     onward o f g =
         rw (onward' i e h o f g)
         (ends-also (length s) (λ (b : B). l.cons (element i e h).value b) (elements_of l (l.next p (element i e h).value) (drop (e + 1) s)))
+
+-- ## The same, of an array
+
+module _ (d : ℕ) (s : Bytes) (i : ℕ) where
+  pub array_over : length s ≤ i → end_of (length s) (array (read d) (drop i s)) ≡ None
+  array_over = over (arrays d) s tt i
+
+  pub array_empty : i < length s → get_or s i 0 ≡ 93 → end_of (length s) (array (read d) (drop i s)) ≡ Some (i + 1)
+  array_empty = empty (arrays d) s tt i
+
+  pub array_begun : i < length s → (get_or s i 0 ≡ 93 → ⊥) → end_of (length s) (array (read d) (drop i s)) ≡ end_of (length s) (elements_of (arrays d) tt (drop i s))
+  array_begun = begun (arrays d) s tt i
+
+  pub array_none : end_of (length s) (read d (drop i s)) ≡ None → end_of (length s) (elements_of (arrays d) tt (drop i s)) ≡ None
+  array_none = no-element (arrays d) s tt i
+
+  module _ (e : ℕ) (h : end_of (length s) (read d (drop i s)) ≡ Some e) where
+    pub array_after : i < e
+    array_after = (element (arrays d) s tt i e h).after
+
+    pub array_cut : length s ≤ e → end_of (length s) (elements_of (arrays d) tt (drop i s)) ≡ None
+    array_cut = cut (arrays d) s tt i e h
+
+    pub array_last : e < length s → get_or s e 0 ≡ 93 → end_of (length s) (elements_of (arrays d) tt (drop i s)) ≡ Some (e + 1)
+    array_last = last (arrays d) s tt i e h
+
+    pub array_stray : e < length s → (get_or s e 0 ≡ 93 → ⊥) → (get_or s e 0 ≡ 44 → ⊥) → end_of (length s) (elements_of (arrays d) tt (drop i s)) ≡ None
+    array_stray = stray (arrays d) s tt i e h
+
+    pub array_onward : e < length s → (get_or s e 0 ≡ 93 → ⊥) → get_or s e 0 ≡ 44 → end_of (length s) (elements_of (arrays d) tt (drop i s)) ≡ end_of (length s) (elements_of (arrays d) tt (drop (e + 1) s))
+    array_onward = onward (arrays d) s tt i e h
+
+-- what the check of `array` may use
+pub ruleset array_rules = (array_over, array_empty, array_begun, array_none, array_after, array_cut, array_last, array_stray, array_onward)

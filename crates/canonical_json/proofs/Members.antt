@@ -12,7 +12,7 @@ use borrow.Author.Tests.{ne_eqb}
 use Rattle.base.specs.Bytes.{Bytes}
 use Rattle.base.proofs.PlaceLaws.{at-cons, at-end}
 use Rattle.canonical_json.specs.Json.{Json}
-use Rattle.canonical_json.specs.Read.{Got, bad, got, end_of, also, read_str, Member, member, rises, raw, read}
+use Rattle.canonical_json.specs.Read.{Got, bad, got, end_of, also, read_str, Member, member, rises, raw, read, object}
 use Rattle.std.specs.declared.option.Option.TheVariants.{None, Some}
 use Rattle.canonical_json.proofs.Place.{ends-also}
 use Rattle.canonical_json.proofs.Cases.{choose-elim, then-elim, front-elim}
@@ -90,3 +90,41 @@ pub onward : (d : ℕ) (p : Option (Bytes)) (s : Bytes) (i e : ℕ) → end_of (
 onward d p s i e h o f g =
     let n = name-at (read d) p s i (loops.element (objects d) s p i e h) in
     loops.onward (objects d) s p i e h o f g ∙ ap (λ (x : Bytes). end_of (length s) (elements_of (objects d) (Some x) (drop (e + 1) s))) (sym n)
+
+-- ## The same, of an object
+
+module _ (d : ℕ) (s : Bytes) (i : ℕ) where
+  pub object_over : length s ≤ i → end_of (length s) (object (read d) (drop i s)) ≡ None
+  object_over = loops.over (objects d) s None i
+
+  pub object_empty : i < length s → get_or s i 0 ≡ 125 → end_of (length s) (object (read d) (drop i s)) ≡ Some (i + 1)
+  object_empty = loops.empty (objects d) s None i
+
+  pub object_begun : i < length s → (get_or s i 0 ≡ 125 → ⊥) → end_of (length s) (object (read d) (drop i s)) ≡ end_of (length s) (elements_of (objects d) None (drop i s))
+  object_begun = loops.begun (objects d) s None i
+
+  module _ (p : Option (Bytes)) where
+    pub object_none : end_of (length s) (member (read d) p (drop i s)) ≡ None → end_of (length s) (elements_of (objects d) p (drop i s)) ≡ None
+    object_none = loops.no-element (objects d) s p i
+
+    module _ (e : ℕ) (h : end_of (length s) (member (read d) p (drop i s)) ≡ Some e) where
+      pub object_after : i < e
+      object_after = (loops.element (objects d) s p i e h).after
+
+      pub object_cut : length s ≤ e → end_of (length s) (elements_of (objects d) p (drop i s)) ≡ None
+      object_cut = loops.cut (objects d) s p i e h
+
+      pub object_last : e < length s → get_or s e 0 ≡ 125 → end_of (length s) (elements_of (objects d) p (drop i s)) ≡ Some (e + 1)
+      object_last = loops.last (objects d) s p i e h
+
+      pub object_stray : e < length s → (get_or s e 0 ≡ 125 → ⊥) → (get_or s e 0 ≡ 44 → ⊥) → end_of (length s) (elements_of (objects d) p (drop i s)) ≡ None
+      object_stray = loops.stray (objects d) s p i e h
+
+      pub object_onward : e < length s → (get_or s e 0 ≡ 125 → ⊥) → get_or s e 0 ≡ 44 → end_of (length s) (elements_of (objects d) p (drop i s)) ≡ end_of (length s) (elements_of (objects d) (Some (raw (drop (i + 1) s))) (drop (e + 1) s))
+      object_onward = onward d p s i e h
+
+-- ## What the check of `pair` may use, and that of `object`
+
+pub ruleset pair_rules = (over, no-quote, no_name, disorder, cut, no-colon, then-value)
+
+pub ruleset object_rules = (object_over, object_empty, object_begun, object_none, object_after, object_cut, object_last, object_stray, object_onward)

@@ -123,3 +123,9 @@ module _ (s t : Bytes) where
   pub less-same : (x y : ℕ) (s' t' : Bytes) → s ≡ x ∷ s' → t ≡ y ∷ t' → x ≡ y → less s t ≡ less s' t'
   unfolding less
   less-same x y s' t' e f n = rw (e, f, eq-eqb x y n)
+
+-- ## What the check of `char_at` may use, and that of `name_less`
+
+pub ruleset char_rules = (over, closed, lone, escaped, byte, char_over, char_closed, char_lone, char_escaped, char_byte)
+
+pub ruleset less_rules = (less-end, less_short, less-differ, less-same)

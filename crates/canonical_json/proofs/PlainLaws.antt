@@ -55,3 +55,6 @@ raw-first s i h p =
     let b = both ((ltb 31 x && ltb x 128) && not (eqb x 34)) (not (eqb x 92)) p in
     let q = both (ltb 31 x && ltb x 128) (not (eqb x 34)) b.0 in
     ap raw (at-cons s i h) ∙ raw-plain _ _ (not-true _ q.1) (not-true _ b.1)
+
+-- what the check of `plain_end` may use
+pub ruleset plain_rules = (plain-run)

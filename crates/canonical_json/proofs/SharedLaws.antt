@@ -45,3 +45,6 @@ shared-run s i j (suc n) h l f =
     shared-run s i j n (omega (arith, h)) (omega (arith, l)) (λ k m. f k (omega (arith, m)))
     ∙ shared-one s (i + n) (j + n) (omega (arith, h)) (omega (arith, l)) (f n (omega arith))
     ∙ ap (λ (m : ℕ). less (raw (drop m s)) (raw (drop (j + n + 1) s))) d ∙ ap (λ (m : ℕ). less (raw (drop (i + suc n) s)) (raw (drop m s))) e
+
+-- what the check of `shared_end` may use
+pub ruleset shared_rules = (shared-run)

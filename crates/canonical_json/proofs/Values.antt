@@ -77,3 +77,6 @@ module _ (s : Bytes) (i d : ℕ) (h : i < length s) (z : d ≡ 0 → ⊥) where
 
   pub in_object : kind_of (get_or s i 0) ≡ Object → end_of (length s) (read d (drop i s)) ≡ end_of (length s) (object (read (d - 1)) (drop (i + 1) s))
   in_object e = rw (by_kind s i d h Object e) (object-less (length s) d (drop (i + 1) s) z)
+
+-- what the check of `value` may use
+pub ruleset value_rules = (over, other, text, minus, digit, is_true, is_false, is_null, deep_array, deep_object, in_array, in_object)

@@ -63,13 +63,15 @@ pub struct EntryRead {
 }
 
 // The step with its answer as a number.
-fn numbered(step: tuf::Step) -> Step
-    ensures { Numbered step result }
-{
-    let a = step.answer;
-    let answer = answers::number(a);
-    let state = step.state;
-    Step { answer, state }
+impl From<tuf::Step> for Step {
+    ghost from_gives = { Numbered };
+
+    fn from(step: tuf::Step) -> Step {
+        Step {
+            answer: answers::number(step.answer),
+            state: step.state,
+        }
+    }
 }
 
 // ---- The calls, in the order of 01's steps
@@ -83,50 +85,47 @@ pub fn gronwythal_blank() -> State
 pub fn gronwythal_install(file: &[u8], row: &[u8], start: i64) -> Step
     ensures { Began (record { file = file.entry.now; row = row.now; start = start }) result.answer (view result.state) }
 {
-    numbered(State::install(file, row, Time { seconds: start }))
+    Step::from(State::install(file, row, Time { seconds: start }))
 }
 
 pub fn gronwythal_new_cycle(state: State, start: i64) -> Step
     ensures { Steps state (new_cycle start) result.answer result.state }
 {
-    numbered(state.new_cycle(Time { seconds: start }))
+    Step::from(state.new_cycle(Time { seconds: start }))
 }
 
 pub fn gronwythal_root(state: State, file: &[u8], held: &[u8], own: &[u8]) -> Step
     ensures { Steps state (new_root (record { file = file.entry.now; held_row = held.now; own_row = own.now })) result.answer result.state }
 {
-    numbered(state.root(file, held, own))
+    Step::from(state.root(file, held, own))
 }
 
 pub fn gronwythal_timestamp(state: State, file: &[u8], row: &[u8]) -> Step
     ensures { Steps state (new_timestamp (record { file = file.entry.now; row = row.now })) result.answer result.state }
 {
-    numbered(state.timestamp(file, row))
+    Step::from(state.timestamp(file, row))
 }
 
 pub fn gronwythal_snapshot(state: State, file: &[u8], row: &[u8]) -> Step
     ensures { Steps state (new_snapshot (record { file = file.entry.now; row = row.now })) result.answer result.state }
 {
-    numbered(state.snapshot(file, row))
+    Step::from(state.snapshot(file, row))
 }
 
 pub fn gronwythal_targets(state: State, file: &[u8], row: &[u8]) -> Step
     ensures { Steps state (new_targets (record { file = file.entry.now; row = row.now })) result.answer result.state }
 {
-    numbered(state.targets(file, row))
+    Step::from(state.targets(file, row))
 }
 
 pub fn gronwythal_find(state: State, file: &[u8], path: &[u8]) -> Image
     ensures { FindsImage state (record { file = file.entry.now; path = path.now }) result.answer (view_image result) result.compared }
 {
     let found = state.find(file, path);
-    let a = found.answer;
-    let answer = answers::number(a);
-    let listed = found.digest;
     Image {
-        answer,
+        answer: answers::number(found.answer),
         length: found.length,
-        digest: listed,
+        digest: found.digest,
         compared: found.compared,
     }
 }
@@ -135,10 +134,10 @@ pub fn gronwythal_key(state: State, keyid: &[u8]) -> PublicKey
     ensures { GivesKey state keyid.now result.answer (view_id result.public) }
 {
     let asked = state.key(keyid);
-    let a = asked.answer;
-    let answer = answers::number(a);
-    let public = asked.public;
-    PublicKey { answer, public }
+    PublicKey {
+        answer: answers::number(asked.answer),
+        public: asked.public,
+    }
 }
 
 pub fn gronwythal_versions(state: State) -> Versions
@@ -150,8 +149,7 @@ pub fn gronwythal_versions(state: State) -> Versions
 pub fn gronwythal_check_image(listed: u64, digest: &[u8], fetched: u64, hash: &[u8]) -> u8
     ensures { result ≡ image_answer (record { length = listed; digest = digest.now }) (record { length = fetched; digest = hash.now }) }
 {
-    let a = tuf::check_image(listed, digest, fetched, hash);
-    answers::number(a)
+    answers::number(tuf::check_image(listed, digest, fetched, hash))
 }
 
 // SHA-256 of the lent bytes.
@@ -167,10 +165,8 @@ pub fn gronwythal_look(file: &[u8]) -> Looked
     ensures { view_look result ≡ look_into file.now }
 {
     let looked = tuf::look(file);
-    let a = looked.answer;
-    let answer = answers::number(a);
     Looked {
-        answer,
+        answer: answers::number(looked.answer),
         start: looked.start,
         length: looked.length,
         entries: looked.entries,
@@ -181,11 +177,11 @@ pub fn gronwythal_entry(file: &[u8], place: usize) -> EntryRead
     ensures { view_entry_read result ≡ entry_at file.now place }
 {
     let read = tuf::entry(file, place);
-    let a = read.answer;
-    let answer = answers::number(a);
-    let keyid = read.keyid;
-    let sig = read.sig;
-    EntryRead { answer, keyid, sig }
+    EntryRead {
+        answer: answers::number(read.answer),
+        keyid: read.keyid,
+        sig: read.sig,
+    }
 }
 
 // ---- Text alone

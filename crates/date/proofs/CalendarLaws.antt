@@ -93,21 +93,15 @@ epoch-seconds = refl
 -- ## The numbers of a date, by cases
 
 module _ (y m d h mi s : ℕ) where
-  pub no_month : m < 1 → None ≡ civil_time y m d h mi s
+  pub out-of-months : (m < 1) ⊎ (12 < m) → None ≡ civil_time y m d h mi s
   unfolding civil_time
-  no_month p = simp (lt-leb _ _ p)
+  out-of-months (inl p) = simp (lt-leb _ _ p)
+  out-of-months (inr p) = simp (lt-leb _ _ p, and-false)
 
-  pub past-months : 12 < m → None ≡ civil_time y m d h mi s
+  pub out-of-days : (d < 1) ⊎ (month_days y m < d) → None ≡ civil_time y m d h mi s
   unfolding civil_time
-  past-months p = simp (lt-leb _ _ p, and-false)
-
-  pub no_day : d < 1 → None ≡ civil_time y m d h mi s
-  unfolding civil_time
-  no_day p = simp (lt-leb _ _ p, and-false)
-
-  pub past-days : month_days y m < d → None ≡ civil_time y m d h mi s
-  unfolding civil_time
-  past-days p = simp (lt-leb _ _ p, and-false)
+  out-of-days (inl p) = simp (lt-leb _ _ p, and-false)
+  out-of-days (inr p) = simp (lt-leb _ _ p, and-false)
 
   pub past-hours : 23 < h → None ≡ civil_time y m d h mi s
   unfolding civil_time

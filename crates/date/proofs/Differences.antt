@@ -92,7 +92,7 @@ sub_le_z x u y l = by (sign x y) (sign u y)
     by (below n h) (above k t) = rw (is_neg x y n h, is_pos u y k t)
     by (below n h) (below k t) = rw (is_neg x y n h, is_neg u y k t) (le-leb k n (omega arith))
 
--- ## The two signs of a divisor's dividend
+-- ## A number below zero, and one that is not
 
 below-zero : (n : ℕ) → ltb n 0 ≡ true → ⊥
 below-zero n e = omega (arith, ltb-true n 0 e)
@@ -102,10 +102,6 @@ pub neg_one : (a : ℤ) → lt_z a (pos 0) ≡ true → negsuc 0 -ℤ a ≡ pos 
 neg_one (pos n) e = absurd (below-zero n e)
 neg_one (negsuc n) e = is_pos (suc n) 1 n (omega arith)
 
-pub floor_neg : (a : ℤ) (m : ℕ) → lt_z a (pos 0) ≡ true → floor_div a m ≡ negsuc (mag a / m)
-floor_neg (pos n) m e = absurd (below-zero n e)
-floor_neg (negsuc n) m e = refl
-
 pub from_one : (q : ℕ) → negsuc 0 -ℤ pos q ≡ negsuc q
 from_one zero = refl
 from_one (suc q) = let e : 0 + q ≡ q = omega arith in rw e
@@ -113,10 +109,6 @@ from_one (suc q) = let e : 0 + q ≡ q = omega arith in rw e
 pub not_neg : (a : ℤ) → lt_z a (pos 0) ≡ false → a ≡ pos (mag a)
 not_neg (pos n) e = refl
 not_neg (negsuc n) e = absurd (true≢false e)
-
-pub floor-pos : (a : ℤ) (m : ℕ) → lt_z a (pos 0) ≡ false → floor_div a m ≡ pos (mag a / m)
-floor-pos (pos n) m e = refl
-floor-pos (negsuc n) m e = absurd (true≢false e)
 
 -- ## Differences in an i64
 

@@ -1,29 +1,23 @@
 -- The form of a date's text: as a test, one turn of a loop that compares, and the digits that it gives.
 use mathlib.Core.Path.{◌≡◌, refl, sym, ◌∙◌, ap}
 use mathlib.Core.List.{[], ◌∷◌}
-use mathlib.Core.Bool.{Bool, true, false, and-false}
+use mathlib.Core.Bool.{Bool, true, false, ◌&&◌, and-false}
+use Rattle.std.specs.List.{list_all, zip}
 use Prim.Native.Nat.{ℕ, zero, suc, ◌≤◌, ◌<◌, ◌+◌}
-use lib.Dec.{eqb}
-use lib.ListN.{length, drop, get_or}
+use lib.ListN.{length, get_or}
 use native.Mathlib.Omega.{arith}
-use borrow.Author.Tests.{eq-eqb, ne_eqb}
+use borrow.Author.Tests.{eq-eqb}
 use Rattle.base.specs.Bytes.{Bytes, is_digit}
 use Rattle.base.proofs.TestLaws.{never, both}
-use Rattle.base.proofs.PlaceLaws.{at-cons, at-end}
 use Rattle.base.proofs.ByteLaws.{digit_range}
 use Rattle.date.specs.Calendar.{fits, has_form, form}
 use Rattle.date.specs.Parts.{DigitsAt}
 
 -- ## A byte
 
-module _ (f b : ℕ) where
-  pub fits_itself : (f ≡ 48 → ⊥) → fits f b ≡ eqb b f
-  unfolding fits
-  fits_itself h = rw (ne_eqb f 48 h)
-
-  pub fits-digit : f ≡ 48 → fits f b ≡ is_digit b
-  unfolding fits
-  fits-digit e = rw (eq-eqb f 48 e)
+fits-digit : (f b : ℕ) → f ≡ 48 → fits f b ≡ is_digit b
+unfolding fits
+fits-digit f b e = rw (eq-eqb f 48 e)
 
 -- ## Lists of bytes
 
@@ -41,19 +35,13 @@ form-length [] (b ∷ s) h = never (sym h)
 form-length (f ∷ fs) [] h = never (sym h)
 form-length (f ∷ fs) (b ∷ s) h = ap suc (form-length fs s (both (fits f b) (has_form fs s) h).1)
 
-module _ (fs s : Bytes) (i : ℕ) where
-  pub form-apart : i < length fs → i < length s → fits (get_or fs i 0) (get_or s i 0) ≡ false → has_form (drop i fs) (drop i s) ≡ false
-  unfolding has_form
-  form-apart p q e = rw (at-cons fs i p, at-cons s i q, e)
-
-  pub form-next : i < length fs → i < length s → fits (get_or fs i 0) (get_or s i 0) ≡ true
-      → has_form (drop i fs) (drop i s) ≡ has_form (drop (i + 1) fs) (drop (i + 1) s)
-  unfolding has_form
-  form-next p q e = rw (at-cons fs i p, at-cons s i q, e)
-
-  pub form-end : length fs ≤ i → length s ≤ i → has_form (drop i fs) (drop i s) ≡ true
-  unfolding has_form
-  form-end p q = rw (at-end fs i p, at-end s i q)
+-- as the pairs of bytes are tested
+pub form-pairs : (fs s : Bytes) → length fs ≡ length s → list_all (λ (p : ℕ × ℕ). fits p.0 p.1) (zip fs s) ≡ has_form fs s
+unfolding has_form
+form-pairs [] [] h = refl
+form-pairs [] (b ∷ s) h = absurd (omega arith)
+form-pairs (f ∷ fs) [] h = absurd (omega arith)
+form-pairs (f ∷ fs) (b ∷ s) h = ap (λ (t : Bool). fits f b && t) (form-pairs fs s (omega arith))
 
 -- ## A digit stands wherever the form has a 0
 

@@ -12,61 +12,46 @@ const DAY: i64 = 86400;
 
 // A count of seconds from 1970-01-01T00:00:00Z.
 #[repr(C)]
-#[derive(Clone, Copy)]
+#[derive(Clone, Copy, PartialEq, Eq, PartialOrd, Ord)]
 pub struct Time {
     pub seconds: i64,
 }
 
 impl Time {
     // Whether a file that expires at this time is expired at `start`.
+    #[tactic(auto, unfolding(crate::specs::Calendar::expired))]
     pub fn expired(self, start: Time) -> bool
         ensures { result ≡ expired_at self.seconds start.seconds }
     {
-        self.seconds <= start.seconds
+        self <= start
     }
 
     // Whether this start time is earlier than the latest one; an equal one is not.
+    #[tactic(auto, unfolding(crate::specs::Calendar::earlier))]
     pub fn earlier(self, latest: Time) -> bool
         ensures { result ≡ earlier_than self.seconds latest.seconds }
     {
-        self.seconds < latest.seconds
+        self < latest
     }
-}
-
-fn wide(b: u8) -> u64
-    ensures { result ≡ b }
-{
-    b as u64
 }
 
 // Whether b may stand where the form has f: a digit for a 0, and for any other byte that byte.
+#[tactic(auto, unfolding(crate::specs::Calendar::fits))]
 fn fits(f: u8, b: u8) -> bool
     ensures { result ≡ fits_form f b }
 {
-    if f != b'0' {
-        return b == f;
+    if f == b'0' {
+        b.is_ascii_digit()
+    } else {
+        b == f
     }
-    if b < b'0' {
-        return false;
-    }
-    b <= b'9'
 }
 
 // Whether s is as long as the form and each byte fits.
 fn has_form(form: &[u8], s: &[u8]) -> bool
     ensures { result ≡ has_form form.now s.now }
 {
-    if form.len() != s.len() {
-        return false;
-    }
-    let mut i = 0;
-    while i < form.len() {
-        if !fits(form[i], s[i]) {
-            return false;
-        }
-        i += 1;
-    }
-    true
+    form.len() == s.len() && form.iter().zip(s).all(|(f, b)| fits(*f, *b))
 }
 
 // The number that two digits write.
@@ -75,25 +60,14 @@ fn two_digits(s: &[u8], at: usize) -> u64
     ensures value { result ≡ two_digits s.now at }
     ensures upper_bound { result ≤ 99 }
 {
-    let tens = s[at];
-    let ones = s[at + 1];
-    wide(tens - b'0') * 10 + wide(ones - b'0')
+    u64::from(s[at] - b'0') * 10 + u64::from(s[at + 1] - b'0')
 }
 
 // 1 in a leap year, else 0.
 fn leap_day(year: u64) -> u64
     ensures { result ≡ cond (is_leap year) 1 0 }
 {
-    if year % 400 == 0 {
-        return 1;
-    }
-    if year % 100 == 0 {
-        return 0;
-    }
-    if year % 4 == 0 {
-        return 1;
-    }
-    0
+    u64::from(year % 4 == 0 && year % 100 != 0 || year % 400 == 0)
 }
 
 // The days of a month.
@@ -113,11 +87,9 @@ fn months_before(year: u64, month: u64) -> u64
     ensures value { result ≡ first_months year (month - 1) }
     ensures upper_bound { result ≤ 400 }
 {
-    let mut days: u64 = 0;
-    let mut k: u64 = 1;
-    while k < month {
+    let mut days = 0;
+    for k in 1..month {
         days += month_days(year, k);
-        k += 1;
     }
     days
 }
@@ -127,8 +99,7 @@ fn floor_div(a: i64, m: u64) -> i64
     requires { (0 < m) × (m < 1000) }
     ensures { result ≡ floor_div a m }
 {
-    let b = m as i64;
-    if a < 0 { -1 - (-1 - a) / b } else { a / b }
+    a.div_euclid(m as i64)
 }
 
 // The days from 1970-01-01 to the first day of a year: 365 for each year, and one for each multiple of 4 from 1970 up to
@@ -159,25 +130,10 @@ fn civil_date(year: u64, month: u64, day: u64, hour: u64, minute: u64, second: u
     requires { year ≤ 9999 }
     ensures { view_date result ≡ civil_time year month day hour minute second }
 {
-    if month < 1 {
+    if !(1..=12).contains(&month) || !(1..=month_days(year, month)).contains(&day) {
         return None;
     }
-    if 12 < month {
-        return None;
-    }
-    if day < 1 {
-        return None;
-    }
-    if month_days(year, month) < day {
-        return None;
-    }
-    if 23 < hour {
-        return None;
-    }
-    if 59 < minute {
-        return None;
-    }
-    if 59 < second {
+    if hour > 23 || minute > 59 || second > 59 {
         return None;
     }
     Some(Time {

@@ -2,7 +2,7 @@
 // A contract `Takes s at F o` says: where a value stands at the place, o is what the form F says of it. `Reads` says where it ends, too.
 #![tactic(auto)]
 
-ghost use Rattle.std.specs.Prelude.{◌≡◌, drop};
+ghost use Rattle.std.specs.Prelude.{◌≡◌, ◌≤◌, drop};
 ghost use Rattle.std.specs.Option.{option_map};
 ghost use Rattle.canonical_json.specs.Read.{raw};
 ghost use Rattle.canonical_json.specs.Fields.{keep, number};
@@ -31,51 +31,46 @@ fn fill_text(s: &[u8], i: usize, out: &mut [u8]) -> bool
 
 // ---- Hex
 
-// A keyid, a public key or a digest: 64 digits, the string just past its opening quote at `i`. In a canonical text hex has no escape; the answer is pinned for every text.
-fn id_escaped(s: &[u8], i: usize) -> Option<Id>
-    ensures { option_map view_id result ≡ unhex key_size (raw (drop i s.now)) }
+// N bytes as digits, the string just past its opening quote at `i`. In a canonical text hex has no escape; the answer is pinned for every text.
+fn hex_escaped<const N: usize>(s: &[u8], i: usize) -> Option<[u8; N]>
+    requires { N ≤ signature_size }
+    ensures { result ≡ unhex N (raw (drop i s.now)) }
 {
-    let mut digits = [0u8; 64];
-    if !fill_text(s, i, &mut digits) {
+    let mut pairs = [[0u8; 2]; N];
+    let digits = pairs.as_flattened_mut();
+    if !fill_text(s, i, digits) {
         return None;
     }
-    let bytes = base::hex_array(&digits)?;
-    Some(Id { bytes })
+    base::hex_array(digits)
 }
 
-// 128 digits.
-fn sig_escaped(s: &[u8], i: usize) -> Option<[u8; 64]>
-    ensures { result ≡ unhex signature_size (raw (drop i s.now)) }
+// The same: undone where they stand, if a quote closes them.
+fn hex_in<const N: usize>(s: &[u8], i: usize) -> Option<[u8; N]>
+    requires { N ≤ signature_size }
+    ensures { result ≡ unhex N (raw (drop i s.now)) }
 {
-    let mut digits = [0u8; 128];
-    if !fill_text(s, i, &mut digits) {
-        return None;
+    let digits = N * 2;
+    if base::byte_after(s, i, digits) == b'"' {
+        if let Some(bytes) = base::hex_array(&s[i..i + digits]) {
+            return Some(bytes);
+        }
     }
-    base::hex_array(&digits)
+    hex_escaped(s, i)
 }
 
-// 64 lower-case hex digits, the string just past its opening quote at `i`: undone where they stand, if a quote closes them.
+// A keyid, a public key or a digest: 64 lower-case hex digits, the string just past its opening quote at `i`.
 pub fn id_in(s: &[u8], i: usize) -> Option<Id>
     ensures { option_map view_id result ≡ unhex key_size (raw (drop i s.now)) }
 {
-    if base::byte_after(s, i, 64) == b'"' {
-        if let Some(bytes) = base::hex_array(&s[i..i + 64]) {
-            return Some(Id { bytes });
-        }
-    }
-    id_escaped(s, i)
+    let bytes = hex_in(s, i)?;
+    Some(Id { bytes })
 }
 
 // 128 digits.
 pub fn sig_in(s: &[u8], i: usize) -> Option<[u8; 64]>
     ensures { result ≡ unhex signature_size (raw (drop i s.now)) }
 {
-    if base::byte_after(s, i, 128) == b'"' {
-        if let Some(bytes) = base::hex_array(&s[i..i + 128]) {
-            return Some(bytes);
-        }
-    }
-    sig_escaped(s, i)
+    hex_in(s, i)
 }
 
 pub fn id_at(s: &[u8], at: usize) -> Option<Id>

@@ -2,27 +2,31 @@
 use mathlib.Core.Path.{◌≡◌, refl, sym, ap, ◌∙◌}
 use Rattle.std.specs.declared.option.Option.{Option}
 use Rattle.std.specs.declared.option.Option.TheVariants.{None, Some}
+use Rattle.std.specs.declared.result.Result.TheVariants.{Ok, Err}
+use Rattle.canonical_json.specs.Options.{bind}
 use mathlib.Core.List.{List, []}
-use mathlib.Core.Bool.{Bool, true}
-use Prim.Native.Nat.{ℕ, zero, suc, min}
+use Prim.Native.Nat.{ℕ, zero, suc}
 use Rattle.base.specs.Bytes.{Bytes, bytes}
 use Rattle.canonical_json.specs.Json.{Json, Items, inil, icons}
-use Rattle.canonical_json.specs.Fields.{keep}
-use Rattle.lookup.specs.Place.{Stands, PlaceOf, Finds, Takes}
+use Rattle.lookup.specs.Place.{Stands, Finds, Takes}
 use Rattle.rules.specs.Take.{must, each}
-use Rattle.rules.specs.Records.{Entry, Read, refused, says}
+use Rattle.rules.specs.Records.{Entry}
 use Rattle.rules.specs.Forms.{Envelope, entry, entries, envelope}
 use Rattle.rules.specs.Reading.{read_envelope}
 use Rattle.rules.specs.Asked.{EntryAsked, no_entry, nth, the_entry, entry_in, entry_at}
-use Rattle.rules.proofs.OptionLaws.{some_is, had, kept-is}
+use Rattle.rules.proofs.OptionLaws.{none-not-some, some_is, had, kept-is}
 use Rattle.rules.proofs.ReadingLaws.{parsed-exactly, envelope_of}
-use Rattle.rules.proofs.TableLaws.{fault-refuses}
-use Rattle.answers.specs.Number.{highest}
-use Rattle.answers.proofs.MostLaws.{fault-most, named}
+use Rattle.rules.specs.Steps.{fault_number}
 use Rattle.envelope.specs.declared.Opened.{Opened}
-use Rattle.envelope.specs.Open.{Opens}
+use Rattle.envelope.specs.declared.Fault.{Fault}
+use Rattle.envelope.specs.Open.{view_fault, Opens}
+use Rattle.envelope.proofs.OpenLaws.{opened-refused, opened-says}
 use Rattle.forms.proofs.StepLaws.{on}
-use Rattle.inspect.specs.Elements.{elements, element_at}
+use Rattle.std.specs.Option.{option_map, ok_or}
+use Rattle.answers.specs.declared.Refusal.{Refusal}
+use Rattle.inspect.specs.declared.EntryRead.{EntryRead}
+use Rattle.inspect.specs.View.{view_entry_read, view_asked}
+use Rattle.inspect.specs.Elements.{elements, element_at, asked_entry}
 
 -- ## Entries and the elements that they are read in
 
@@ -64,53 +68,51 @@ entries-of v e h =
     let start = had _ _ any.2 in
     es.1 ∙ ap (λ (x : Envelope). Some x.entries) (some_is start.2)
 
--- an entry by its parts
-pub entry_of : (k l s t : Bytes) → k ≡ l → s ≡ t → the_entry (Some (record { keyid = k; sig = s })) ≡ the_entry (Some (record { keyid = l; sig = t }))
-entry_of k l s t e f = ap (λ (x : Bytes). the_entry (Some (record { keyid = x; sig = s }))) e ∙ ap (λ (x : Bytes). the_entry (Some (record { keyid = l; sig = x }))) f
+-- ## The entry that is given
+
+module _ (v : Json) where
+  pub asked-no : None ≡ entry v → None ≡ asked_entry v
+  unfolding asked_entry bind
+  asked-no e = rw (← e)
+
+  pub asked-is : (k s : Bytes) → Some (record { keyid = k; sig = s }) ≡ entry v → Some (the_entry (Some (record { keyid = k; sig = s }))) ≡ asked_entry v
+  unfolding asked_entry bind
+  asked-is k s e = rw (← e)
 
 -- ## The answer
 
-module _ (file : Bytes) (place : ℕ) (o : Opened) (w : Opens file o (read_envelope file)) where
-  pub asked-refused : (o.answer ≡ 0 → ⊥) → (n : ℕ) → n ≡ min o.answer highest → no_entry n ≡ entry_at file place
+module _ (file : Bytes) (place : ℕ) where
+  pub asked-refused : (f : Fault) → Opens file (Err f) (read_envelope file) → no_entry (fault_number (view_fault f)) ≡ entry_at file place
   unfolding entry_at entry_in
-  asked-refused z n e = go (read_envelope file) w
-    where
-      go : (x : Read Envelope) → Opens file o x → no_entry n ≡ entry_in place x
-      go (refused f) w = ap no_entry (named e w.answer (fault-most f))
-      go (says d ks) w = absurd (z w.answer)
+  asked-refused f w = rw (opened-refused file f w)
 
-  module _ (z : o.answer ≡ 0) where
+  module _ (o : Opened) (w : Opens file (Ok o) (read_envelope file)) where
     -- what the envelope says of the place
-    said : (P : EntryAsked → Type 0)
-        → ((v : Json) → Stands file 0 v → (es : List Entry) → must (bytes "signatures") entries v ≡ Some es → P (the_entry (nth place es)))
-        → P (entry_at file place)
+    said : (v : Json) × Stands file 0 v × (es : List Entry) × (must (bytes "signatures") entries v ≡ Some es) × (entry_at file place ≡ the_entry (nth place es))
     unfolding entry_at entry_in
-    said P f = go (read_envelope file) refl w
-      where
-        go : (x : Read Envelope) → read_envelope file ≡ x → Opens file o x → P (entry_in place x)
-        go (refused f) q w = absurd (fault-refuses f (sym w.answer ∙ z))
-        go (says e ks) q w =
-            let d = envelope_of file e ks q in
-            let t = (parsed-exactly file d.value).0 d.text in
-            f d.value (record { rest = []; text = t.1; free = tt; valid = t.0 }) e.entries (entries-of d.value e d.form)
+    said =
+        let s = opened-says file o w in
+        let d = envelope_of file s.0 s.1 s.2 in
+        let t = (parsed-exactly file d.value).0 d.text in
+        (d.value, record { rest = []; text = t.1; free = tt; valid = t.0 }, s.0.entries, entries-of d.value s.0 d.form, rw s.2 refl)
 
-    module _ (r : Option ℕ) (f : Finds file 0 (must (bytes "signatures") (element_at place)) r) where
-      pub asked-none : r ≡ None → no_entry 15 ≡ entry_at file place
-      unfolding the_entry
-      asked-none q = said (λ x. no_entry 15 ≡ x) go
-        where
-          go : (v : Json) → Stands file 0 v → (es : List Entry) → must (bytes "signatures") entries v ≡ Some es → no_entry 15 ≡ the_entry (nth place es)
-          go v h es e =
-              let n : must (bytes "signatures") (element_at place) v ≡ None = rw q at (f v h) in
-              let k : nth place es ≡ None = rw n at (entry-nth v es e place) in
-              rw k refl
+    pub asked-none : Finds file 0 (must (bytes "signatures") (element_at place)) None → no_entry 15 ≡ entry_at file place
+    unfolding the_entry
+    asked-none f =
+        let s = said in
+        let k : nth place s.2 ≡ None = rw (f s.0 s.1) at (entry-nth s.0 s.2 s.3 place) in
+        sym (s.4 ∙ rw k refl)
 
-      pub asked-some : (x : ℕ) → r ≡ Some x → (ok : Bool) (a : Entry) → Takes file x entry (keep ok a) → (y : EntryAsked) → (ok ≡ true → y ≡ the_entry (Some a)) → y ≡ entry_at file place
-      asked-some x q ok a t y z = said (λ x. y ≡ x) go
-        where
-          go : (v : Json) → Stands file 0 v → (es : List Entry) → must (bytes "signatures") entries v ≡ Some es → y ≡ the_entry (nth place es)
-          go v h es e =
-              let p : PlaceOf file (Some x) (must (bytes "signatures") (element_at place) v) = rw q at (f v h) in
-              let k : Reads entry (Some p.0) (nth place es) = rw p.1 at (entry-nth v es e place) in
-              let h = kept-is ok a (t p.0 p.2 ∙ k.1) in
-              z h.0 ∙ ap the_entry (ap Some h.1 ∙ sym k.2)
+    module _ (x : ℕ) (f : Finds file 0 (must (bytes "signatures") (element_at place)) (Some x)) where
+      -- the element is an entry
+      there : (u : Json) × Stands file x u × (a : Entry) × (entry u ≡ Some a) × (entry_at file place ≡ the_entry (Some a))
+      there =
+          let s = said in
+          let p = f s.0 s.1 in
+          let k : Reads entry (Some p.0) (nth place s.2) = rw p.1 at (entry-nth s.0 s.2 s.3 place) in
+          (p.0, p.2, k.0, k.1, s.4 ∙ ap the_entry k.2)
+
+      pub asked-some : (r : Option EntryRead) → Takes file x asked_entry (option_map view_entry_read r) → (e : Refusal) → view_asked (ok_or r e) ≡ entry_at file place
+      unfolding asked_entry view_asked bind
+      asked-some None t e = let u = there in none-not-some (t u.0 u.1 ∙ on _ u.3)
+      asked-some (Some y) t e = let u = there in some_is (t u.0 u.1 ∙ on _ u.3) ∙ sym u.4

@@ -3,8 +3,7 @@ use mathlib.Core.Path.{◌≡◌, refl, ◌∙◌}
 use Rattle.std.specs.declared.option.Option.{Option}
 use Rattle.std.specs.declared.option.Option.TheVariants.{None, Some}
 use Rattle.canonical_json.specs.Options.{bind}
-use Prim.Native.Nat.{ℕ, suc, ◌-◌}
-use native.Mathlib.Omega.{arith}
+use Prim.Native.Nat.{ℕ, suc}
 use Rattle.base.specs.Bytes.{Bytes}
 use Rattle.canonical_json.specs.Json.{Json, Items, icons}
 use Rattle.canonical_json.specs.Fields.{items, field}
@@ -48,11 +47,13 @@ module _ (s : Bytes) where
       go (Some xs) l = left-nth n l
 
   module _ (e : Element) (n : ℕ) (o : Option Json) (w : NthLeft s e n o) where
-    pub nth-none : e ≡ NoArray → PlaceOf s None o
-    nth-none q = rw q at w
-
-    pub nth_end : (j : ℕ) → e ≡ End j → PlaceOf s None o
-    nth_end j q = rw q at w
+    pub nth-over : ((i : ℕ) → e ≡ At i → ⊥) → PlaceOf s None o
+    nth-over f = go e w f
+      where
+        go : (e : Element) → NthLeft s e n o → ((i : ℕ) → e ≡ At i → ⊥) → o ≡ None
+        go NoArray w f = w
+        go (End j) w f = w
+        go (At i) w f = absurd (f i refl)
 
     module _ (i : ℕ) (q : e ≡ At i) where
       here : NthLeft s (At i) n o
@@ -61,10 +62,8 @@ module _ (s : Bytes) where
       pub nth_here : n ≡ 0 → PlaceOf s (Some i) o
       nth_here z = (here.0, here.3 ∙ nth-now here.0 here.1 n z, item-stands here.2.1)
 
-      pub nth-next : (n ≡ 0 → ⊥) → (e' : Element) → NextElement s i e' → NthLeft s e' (n - 1) o
-      nth-next z e' x =
-          let k : n ≡ suc (n - 1) = omega arith in
-          rw (here.3 ∙ nth-later here.0 here.1 n (n - 1) k) (left-nth (n - 1) (x.means here.0 here.1 here.2.1))
+      pub nth-next : (m : ℕ) → n ≡ suc m → (e' : Element) → NextElement s i e' → NthLeft s e' m o
+      nth-next m k e' x = rw (here.3 ∙ nth-later here.0 here.1 n m k) (left-nth m (x.means here.0 here.1 here.2.1))
 
 -- ## In a member of an object
 

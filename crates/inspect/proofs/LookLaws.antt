@@ -1,37 +1,35 @@
 -- Looking in: from an opened envelope to the answer and the number of entries; the signed part lies in the file.
 use mathlib.Core.Path.{◌≡◌, refl, sym, ap, ◌∙◌}
-use mathlib.Core.List.{List}
-use Prim.Native.Nat.{ℕ, ◌+◌, ◌-◌, ◌≤◌, min}
+use mathlib.Core.List.{List, map}
+use Prim.Native.Nat.{ℕ, ◌+◌, ◌-◌, ◌≤◌}
 use native.Mathlib.Omega.{arith}
 use lib.ListN.{length, take, drop, length-map}
 use Rattle.base.specs.Bytes.{Bytes}
-use Rattle.base.proofs.WindowLaws.{run_length}
 use Rattle.lookup.specs.Place.{EndsAt}
-use Rattle.std.specs.declared.option.Option.{Option}
 use Rattle.std.specs.declared.option.Option.TheVariants.{None, Some}
+use Rattle.std.specs.declared.result.Result.TheVariants.{Ok, Err}
 use Rattle.lookup.proofs.StandsLaws.{end-found, end_is}
 use Rattle.lookup.proofs.PlacedLaws.{value-length}
-use Rattle.rules.specs.Limits.{max_entries}
 use Rattle.rules.specs.Records.{Entry, Read, refused, says}
 use Rattle.rules.specs.Forms.{Envelope}
 use Rattle.rules.specs.Reading.{keyids_of, read_envelope}
 use Rattle.rules.specs.Asked.{Look, look_of, look, signed_part}
 use Rattle.rules.proofs.ReadingLaws.{signed_part_lem}
-use Rattle.rules.proofs.TableLaws.{fault-refuses}
-use Rattle.answers.specs.Number.{highest}
-use Rattle.answers.proofs.MostLaws.{fault-most, named}
-use Rattle.records.specs.declared.Entries.{Entries}
-use Rattle.records.specs.View.{firsts, view_entries}
+use Rattle.rules.specs.Steps.{fault_number}
+use Rattle.records.specs.declared.Id.{Id}
+use Rattle.records.specs.View.{view_id, view_entries}
 use Rattle.envelope.specs.declared.Opened.{Opened}
-use Rattle.envelope.specs.Open.{IsOpen, Opens}
+use Rattle.envelope.specs.declared.Fault.{Fault}
+use Rattle.envelope.specs.Open.{IsOpen, view_fault, Opens}
+use Rattle.envelope.proofs.OpenLaws.{opened-refused, opened-says}
 use Rattle.inspect.specs.View.{no_look}
 
 -- ## The answer
 
 -- the entries are as many as their keyids
-counted : (es : Entries) (read : List Entry) → view_entries es ≡ keyids_of read → min es.count max_entries ≡ length read
-unfolding view_entries firsts keyids_of
-counted es read e = sym (run_length _ _ _) ∙ ap length e ∙ length-map read _
+counted : (ids : List Id) (read : List Entry) → map view_id ids ≡ keyids_of read → length ids ≡ length read
+unfolding keyids_of
+counted ids read e = sym (length-map ids _) ∙ ap length e ∙ length-map read _
 
 -- by its parts
 looks : (answer start length entries : ℕ) (l : Look) → answer ≡ l.answer → start ≡ l.start → length ≡ l.length → entries ≡ l.entries
@@ -42,38 +40,31 @@ looks answer start length entries l a s n e = rw (a, s, n, e)
 abbrev seen : ℕ → ℕ → ℕ → Look
 seen start length entries = record { answer = 0; start = start; length = length; entries = entries }
 
-module _ (file : Bytes) (o : Opened) (w : Opens file o (read_envelope file)) where
-  pub look-refused : (o.answer ≡ 0 → ⊥) → (n : ℕ) → n ≡ min o.answer highest → no_look n ≡ look file
+module _ (file : Bytes) where
+  pub look-refused : (f : Fault) → Opens file (Err f) (read_envelope file) → no_look (fault_number (view_fault f)) ≡ look file
   unfolding look look_of no_look
-  look-refused z n a = go (read_envelope file) w
-    where
-      go : (e : Read Envelope) → Opens file o e → no_look n ≡ look_of e
-      go (refused f) w = rw (named a w.answer (fault-most f))
-      go (says e ks) w = absurd (z w.answer)
+  look-refused f w = rw (opened-refused file f w)
 
-  module _ (z : o.answer ≡ 0) (g : Option ℕ) (ends : EndsAt file o.start g) where
+  module _ (o : Opened) (w : Opens file (Ok o) (read_envelope file)) where
     -- what the look gives, by the envelope that was opened
-    opens : (P : Look → Type 0) → ((e : Envelope) → IsOpen file o e → P (seen e.start e.length (length e.entries))) → P (look file)
+    opens : (e : Envelope) × IsOpen file o e × (look file ≡ seen e.start e.length (length e.entries))
     unfolding look look_of
-    opens P f = go (read_envelope file) w
-      where
-        go : (e : Read Envelope) → Opens file o e → P (look_of e)
-        go (refused f) w = absurd (fault-refuses f (sym w.answer ∙ z))
-        go (says e ks) w = f e w
+    opens = let s = opened-says file o w in (s.0, s.3, rw s.2 refl)
 
-    pub look-endless : (P : Look → Type 0) → g ≡ None → P (look file)
-    look-endless P q = opens P (λ e x. absurd (end-found file o.start e.signed x.stands ends q))
+    -- its signed part ends
+    pub look-endless : {X : Type 0} → EndsAt file o.start None → X
+    look-endless x = let s = opens in absurd (end-found file o.start s.0.signed s.1.stands x refl)
 
-    pub look_is : (end entries : ℕ) → g ≡ Some end → entries ≡ min o.entries.count max_entries
-        → seen o.start (end - o.start) entries ≡ look file
-    look_is end entries q n = opens (λ (l : Look). seen o.start (end - o.start) entries ≡ l) go
-      where
-        go : (e : Envelope) → IsOpen file o e → seen o.start (end - o.start) entries ≡ seen e.start e.length (length e.entries)
-        go e x =
-            let i = end_is file o.start e.signed x.stands ends end q in
-            let m = value-length file o.start e.signed x.stands in
-            let s = x.size in
-            looks 0 o.start (end - o.start) entries (seen e.start e.length (length e.entries)) refl x.start (omega arith) (n ∙ counted o.entries e.entries x.keyids)
+    pub look_is : (end : ℕ) → EndsAt file o.start (Some end) → (ids : List Id) → map view_id ids ≡ view_entries o.entries
+        → seen o.start (end - o.start) (length ids) ≡ look file
+    look_is end x ids k =
+        let s = opens in
+        let e = s.0 in
+        let i = end_is file o.start e.signed s.1.stands x end refl in
+        let m = value-length file o.start e.signed s.1.stands in
+        let z = s.1.size in
+        looks 0 o.start (end - o.start) (length ids) (seen e.start e.length (length e.entries)) refl s.1.start (omega arith) (counted ids e.entries (k ∙ s.1.keyids))
+        ∙ sym s.2
 
 -- ## The part
 

@@ -2,16 +2,16 @@
 #![tactic(auto)]
 
 ghost use Rattle.std.specs.Prelude.{◌≡◌, ◌+◌};
+ghost use Rattle.std.specs.Option.{option_map};
 ghost use Rattle.base.specs.Bytes.{bytes};
-ghost use Rattle.lookup.specs.Place.{Finds};
+ghost use Rattle.lookup.specs.Place.{Finds, Takes};
 ghost use Rattle.rules.specs.Take.{must};
-ghost use Rattle.rules.specs.Asked.{look as look_into, signed_part, no_entry, entry_at};
-ghost use Rattle.answers.specs.Number.{number_of};
-ghost use Rattle.inspect.specs.View.{view_look, no_look, view_entry_read};
-ghost use Rattle.inspect.specs.Elements.{element_at};
+ghost use Rattle.rules.specs.Asked.{look as look_into, signed_part, entry_at};
+ghost use Rattle.inspect.specs.View.{view_look, view_looked, view_entry_read, view_asked};
+ghost use Rattle.inspect.specs.Elements.{element_at, asked_entry};
 
-use answers::Answer;
-use lookup::{Element, Found};
+use answers::{Answer, Refusal};
+use lookup::Element;
 use records::Id;
 
 // ---- The signed part
@@ -25,41 +25,32 @@ pub struct Looked {
     pub entries: usize,
 }
 
-// "A refused look gives an empty part and 0".
-fn no_look(answer: Answer) -> Looked
-    ensures { view_look result ≡ no_look (number_of answer) }
+fn find_part(file: &[u8]) -> Result<Looked, Refusal>
+    ensures { view_looked result ≡ look_into file.now }
 {
-    Looked {
-        answer,
-        start: 0,
-        length: 0,
-        entries: 0,
-    }
+    let opened = envelope::open_envelope(file)?;
+    // the signed part stands at its place, so that it ends
+    let end = lookup::value_end(file, opened.start).ok_or(Refusal::BadForm)?;
+    Ok(Looked {
+        answer: Ok(()),
+        start: opened.start,
+        length: end - opened.start,
+        entries: opened.entries.all().len(),
+    })
 }
 
+// "A refused look gives an empty part and 0".
 pub fn look(file: &[u8]) -> Looked
     ensures { view_look result ≡ look_into file.now }
 {
-    let opened = envelope::open_envelope(file);
-    if opened.answer != 0 {
-        let refusal = answers::numbered(opened.answer);
-        return no_look(refusal);
-    }
-    let start = opened.start;
-    let entries = records::at_most(opened.entries.count, records::MAX_ENTRIES);
-    match lookup::value_end(file, start) {
-        // the signed part stands at its place, so that it ends
-        None => {
-            return no_look(Answer::BadForm);
-        }
-        Some(end) => {
-            return Looked {
-                answer: Answer::Accepted,
-                start,
-                length: end - start,
-                entries,
-            };
-        }
+    match find_part(file) {
+        Ok(looked) => looked,
+        Err(refusal) => Looked {
+            answer: Err(refusal),
+            start: 0,
+            length: 0,
+            entries: 0,
+        },
     }
 }
 
@@ -69,9 +60,7 @@ pub fn signed_part(file: &[u8]) -> &[u8]
     ensures ref_ptr_value { (result.ref_ptr.0 ≡ file.entry.ref_ptr.0) × (result.ref_ptr.1 ≡ (look_into file.now).start + file.entry.ref_ptr.1) }
 {
     let looked = look(file);
-    let start = looked.start;
-    let length = looked.length;
-    &file[start..start + length]
+    &file[looked.start..looked.start + looked.length]
 }
 
 // ---- One entry
@@ -84,39 +73,20 @@ pub struct EntryRead {
     pub sig: [u8; 64],
 }
 
-// "refused, they give that many zeros".
-fn no_entry(answer: Answer) -> EntryRead
-    ensures { view_entry_read result ≡ no_entry (number_of answer) }
-{
-    EntryRead {
-        answer,
-        keyid: Id { bytes: [0u8; 32] },
-        sig: [0u8; 64],
-    }
-}
-
 // Where the element at that place of the array at `at` stands.
 fn nth_element(s: &[u8], at: usize, place: usize) -> Option<usize>
     ensures { Finds s.now at (element_at place) result }
 {
-    let mut left = place;
     let mut e = lookup::first_element(s, at);
-    loop {
-        match e {
-            Element::At(i) => {
-                if left == 0 {
-                    return Some(i);
-                }
-                left -= 1;
-                e = lookup::next_element(s, i);
-            }
-            Element::NoArray => {
-                return None;
-            }
-            Element::End(_) => {
-                return None;
-            }
-        }
+    for _ in 0..place {
+        let Element::At(i) = e else {
+            return None;
+        };
+        e = lookup::next_element(s, i);
+    }
+    match e {
+        Element::At(i) => Some(i),
+        _ => None,
     }
 }
 
@@ -124,40 +94,43 @@ fn nth_element(s: &[u8], at: usize, place: usize) -> Option<usize>
 fn find_entry(file: &[u8], place: usize) -> Option<usize>
     ensures { Finds file.now 0 (must (bytes "signatures") (element_at place)) result }
 {
-    match lookup::find_member(file, 0, b"signatures") {
-        None => {
-            return None;
-        }
-        Some(entries) => {
-            return nth_element(file, entries, place);
-        }
-    }
+    let entries = lookup::find_member(file, 0, b"signatures")?;
+    nth_element(file, entries, place)
 }
 
-// "its place counted from 0". Every entry of an envelope that opens has its form, so the one that is found is read without a test.
+// The entry at `at`.
+fn entry_in(s: &[u8], at: usize) -> Option<EntryRead>
+    ensures { Takes s.now at asked_entry (option_map view_entry_read result) }
+{
+    let entry = envelope::entry_at(s, at)?.value;
+    let keyid = forms::id_in(s, entry.keyid)?;
+    let sig = forms::sig_in(s, entry.sig)?;
+    Some(EntryRead {
+        answer: Ok(()),
+        keyid,
+        sig,
+    })
+}
+
+fn listed_entry(file: &[u8], place: usize) -> Result<EntryRead, Refusal>
+    ensures { view_asked result ≡ entry_at file.now place }
+{
+    envelope::open_envelope(file)?;
+    let at = find_entry(file, place).ok_or(Refusal::NotListed)?;
+    // every entry of an envelope that opens has its form
+    entry_in(file, at).ok_or(Refusal::BadForm)
+}
+
+// "its place counted from 0"; "refused, they give that many zeros".
 pub fn entry(file: &[u8], place: usize) -> EntryRead
     ensures { view_entry_read result ≡ entry_at file.now place }
 {
-    let opened = envelope::open_envelope(file);
-    if opened.answer != 0 {
-        let refusal = answers::numbered(opened.answer);
-        return no_entry(refusal);
-    }
-    match find_entry(file, place) {
-        None => {
-            return no_entry(Answer::NotListed);
-        }
-        Some(at) => {
-            let read = envelope::entry_at(file, at);
-            let id = forms::id_in(file, read.keyid);
-            let signature = forms::sig_in(file, read.sig);
-            let keyid = id.id;
-            let sig = signature.bytes;
-            return EntryRead {
-                answer: Answer::Accepted,
-                keyid,
-                sig,
-            };
-        }
+    match listed_entry(file, place) {
+        Ok(entry) => entry,
+        Err(refusal) => EntryRead {
+            answer: Err(refusal),
+            keyid: Id { bytes: [0u8; 32] },
+            sig: [0u8; 64],
+        },
     }
 }

@@ -1,17 +1,15 @@
 -- The bits of a number, and of what `|`, `&` and `<<` make.
-use Prim.Native.Nat.{ℕ, zero, suc, ◌+◌, ◌*◌, ◌/◌, ◌%◌, ◌^◌, ◌<◌, ◌≤◌}
+use Prim.Native.Nat.{ℕ, zero, suc, ◌+◌, ◌*◌, ◌/◌, ◌%◌, ◌^◌, ◌<◌}
 use mathlib.Core.Path.{◌≡◌, refl, sym, ap, ◌∙◌}
-use mathlib.Core.Bool.{Bool, true, false, cond, ◌&&◌, ◌||◌, and-true, and-false, or-false}
+use mathlib.Core.Bool.{false, cond, ◌&&◌, ◌||◌}
 use native.Mathlib.Omega.{arith}
 use native.Mathlib.Nat.{div-one, zero-div}
 use native.Mathlib.Numerals.{one-add}
-use borrow.Author.Tests.{ltb-true, ltb-false, eqb-true, eqb-false, lt-ltb, le-ltb, ne_eqb}
-use lib.Dec.{eqb, ltb, eqb-zero-suc, eqb-suc-zero, eqb-suc-suc}
+use lib.Dec.{eqb, eqb-zero-suc, eqb-suc-zero, eqb-suc-suc}
 use lib.Bits.{bit_and, bit_or, or_shr, or_mod, and_shr, and_mod, shifted_half, shifted_even}
 use lib.Count.{ones, ones_step}
 use lib.Pow.{shr-shr, shl_exact}
 use Rattle.records.specs.View.{has}
-use Rattle.keys.specs.Signers.{Marks}
 
 -- what holds of 0 and of 1 holds of a bit
 bit : (P : ℕ → Type 0) (x : ℕ) → P 0 → P 1 → P (x % 2)
@@ -62,28 +60,3 @@ one_bit (suc j) (suc k) = has-next (1 * 2 ^ suc j) k ∙ rw (shifted_half 1 j, e
 -- a single bit of sixteen
 pub has_shifted : (j k : ℕ) → j < 16 → has (1 * 2 ^ j % 65536) k ≡ eqb j k
 has_shifted j k h = rw (shl_exact {a = 1} 1 j 16 (omega arith) (omega arith)) (one_bit j k)
-
--- ## Bits marked in turn
-
-below_step : (k j : ℕ) (test : ℕ → Bool) → (ltb k j && test k) || (test j && eqb j k) ≡ ltb k (j + 1) && test k
-below_step k j test = at (ltb k j) refl (eqb j k) refl
-  where
-    at : (b : Bool) → ltb k j ≡ b → (d : Bool) → eqb j k ≡ d → (ltb k j && test k) || (test j && eqb j k) ≡ ltb k (j + 1) && test k
-    at true p d q =
-        let l : k < j = ltb-true k j p in
-        simp (p, ne_eqb j k (λ e. omega arith), lt-ltb k (j + 1) (omega arith), and-false, or-false)
-    at false p true q =
-        let e : j ≡ k = eqb-true j k q in
-        simp (p, q, lt-ltb k (j + 1) (omega arith), and-true) (ap test e)
-    at false p false q =
-        let l : j ≤ k = ltb-false k j p in
-        let n : j + 1 ≤ k = omega (arith, eqb-false j k q) in
-        simp (p, q, le-ltb k (j + 1) n, and-false)
-
-module _ (test : ℕ → Bool) where
-  pub marks_none : Marks 0 test 0
-  marks_none k h = rw (has-zero k, le-ltb k 0 (omega arith))
-
-  pub marks_next : (j bits more : ℕ) (set : Bool) → Marks j test bits → set ≡ test j
-      → ((k : ℕ) → k < 16 → has more k ≡ has bits k || (set && eqb j k)) → Marks (j + 1) test more
-  marks_next j bits more set m e f k h = rw (f k h, m k h, e) (below_step k j test)

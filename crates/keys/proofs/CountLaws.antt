@@ -7,7 +7,7 @@ use native.Mathlib.Omega.{arith}
 use native.Mathlib.Nat.{pow-suc, zero-add, add-zero}
 use native.Mathlib.Numerals.{add-one}
 use lib.Bits.{bit_and, and_le_r}
-use lib.Count.{ones, ones_in, ones-le}
+use lib.Count.{ones, ones_in}
 use lib.Dec.{ltb, leb-suc-suc, leb-suc-zero}
 use lib.ListN.{length}
 use borrow.Author.Tests.{lt-ltb}
@@ -68,9 +68,6 @@ module _ (f : ℕ → Key) (p : Bytes → Bool) (mask : ℕ) where
       let e : suc n - 1 ≡ n = omega arith in
       let rest = ones-passing m n (i + 1) (x / 2) (omega arith) (omega (arith, pow-suc 2 m)) (rw e at (bits-next m (suc n) i x q)) in
       rw (ones_low x, q 0 (omega arith), passing-next, add-zero i, lt-ltb 0 (suc n) (omega arith), rest)
-
-pub few_ones : (a b : ℕ) → b < 2 ^ 16 → ones (bit_and a b) ≤ 16
-few_ones a b h = ones-le 16 (bit_and a b) (omega (arith, and_le_r a b))
 
 -- the role's keys that signed, counted
 pub count_ones : (t : KeyTable) (role : Role) (entries : List Bytes) (row : Row) (bits : ℕ) → role.keys < 2 ^ 16

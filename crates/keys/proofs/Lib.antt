@@ -1,4 +1,3 @@
 pub mod BitLaws
-pub mod TableLaws
-pub mod RowLaws
 pub mod CountLaws
+pub mod KeyLaws

@@ -1,13 +1,10 @@
 -- What this crate's functions promise, where that is not a definition of the paper's.
-use Rattle.std.specs.Prelude.{◌≡◌, Bool, not, ◌&&◌, List, ℕ, ◌<◌, ltb}
-use Rattle.std.specs.declared.option.Option.{Option}
+use Rattle.std.specs.Prelude.{◌≡◌, Bool, false, ◌&&◌, List, ℕ, ◌<◌, ◌≤◌, ltb, Option, Some, None, IsNone, IsSomeAnd}
 use Rattle.base.specs.Bytes.{Bytes, same}
 use Rattle.rules.specs.Limits.{max_keys}
 use Rattle.rules.specs.Records as rules
 use Rattle.rules.specs.State.{Row}
-use Rattle.rules.specs.Table.{absent}
 use Rattle.rules.specs.Conditions.{signed}
-use Rattle.rules.specs.Asked.{public_of}
 use Rattle.records.specs.declared.Id.{Id}
 use Rattle.records.specs.declared.KeyTable.{KeyTable}
 use Rattle.records.specs.View.{view_id, key_at, has}
@@ -24,7 +21,12 @@ has_id t keyid k = same keyid (view_id (key_at t k).keyid)
 abbrev pub Marks : ℕ → (ℕ → Bool) → ℕ → Type 0
 Marks n test bits = (k : ℕ) → k < max_keys → has bits k ≡ ltb k n && test k
 
--- a key asked for: whether it is there, and its public value, zeros where it is not
-pub record Asked (key : Option rules.Key) (found : Bool) (public : Id) : Type 0 where
-  pub there : found ≡ not (absent key)
-  pub value : view_id public ≡ public_of key
+-- of 16 bits, each of the places below n is what a call gave for it, and no other is set
+pub record Marked (gave : ℕ → Bool → Type 0) (n bits : ℕ) : Type 0 where
+  pub asked : (k : ℕ) → k < n → gave k (has bits k)
+  pub others : (k : ℕ) → k < max_keys → n ≤ k → has bits k ≡ false
+
+-- a key asked for: its public value, where there is such a key
+abbrev pub Asked : Option rules.Key → Option Id → Type 0
+Asked None public = IsNone public
+Asked (Some key) public = IsSomeAnd public (λ p. view_id p ≡ key.public)

@@ -9,17 +9,10 @@ ghost use Rattle.names.specs.TargetsEntry.{TargetsEntry};
 
 use records::{Id, Listed, Name, Names};
 
-fn same_name(a: Name, b: Name) -> bool
-    ensures { result ≡ same (view_name a) (view_name b) }
+fn same_name(a: &Name, b: &Name) -> bool
+    ensures { result ≡ same (view_name a.now) (view_name b.now) }
 {
-    let n = records::at_most(a.length, records::MAX_NAME);
-    let m = records::at_most(b.length, records::MAX_NAME);
-    if n != m {
-        return false;
-    }
-    let x = a.bytes;
-    let y = b.bytes;
-    base::same_window(&x, 0, &y, 0, n)
+    a.text() == b.text()
 }
 
 // ---- Refusal 13: not "Every name in the held snapshot is still listed, with a version not lower"
@@ -27,24 +20,16 @@ fn same_name(a: Name, b: Name) -> bool
 pub fn lost(held: Names, new: Names) -> bool
     ensures { result ≡ lost_of (view_names held) (view_names new) }
 {
-    let n = records::at_most(held.count, records::MAX_NAMES);
-    let m = records::at_most(new.count, records::MAX_NAMES);
     let mut lost = false;
-    let mut i = 0;
-    'held: while i < n {
-        let old = held.named[i];
-        let mut j = 0;
-        while j < m {
-            let now = new.named[j];
-            if same_name(old.name, now.name) {
+    'held: for old in held.listed() {
+        for now in new.listed() {
+            if same_name(&old.name, &now.name) {
                 if now.listed.version < old.listed.version {
                     lost = true;
                     break 'held;
                 }
-                i += 1;
                 continue 'held;
             }
-            j += 1;
         }
         lost = true;
         break 'held;
@@ -54,67 +39,47 @@ pub fn lost(held: Names, new: Names) -> bool
 
 // ---- The `targets.json` entry
 
-fn is_targets(name: Name) -> bool
-    ensures { result ≡ same (bytes "targets.json") (view_name name) }
+fn is_targets(name: &Name) -> bool
+    ensures { result ≡ same (bytes "targets.json") (view_name name.now) }
 {
-    let n = records::at_most(name.length, records::MAX_NAME);
-    if n != 12 {
-        return false;
-    }
-    let x = name.bytes;
-    base::same_window(b"targets.json", 0, &x, 0, 12)
+    name.text() == b"targets.json".as_slice()
 }
 
 // What is said of `targets.json`; where it is not listed, a version that no file has.
 pub fn targets_entry(names: Names) -> Listed
     ensures { TargetsEntry (view_names names) (view_listed result) }
 {
-    let n = records::at_most(names.count, records::MAX_NAMES);
-    let mut i = 0;
-    while i < n {
-        let named = names.named[i];
-        if is_targets(named.name) {
-            return named.listed;
-        }
-        i += 1;
-    }
-    let digest = Id { bytes: [0u8; 32] };
-    Listed {
-        version: 0,
-        measured: false,
-        length: 0,
-        hashed: false,
-        digest,
+    match names.listed().iter().find(|named| is_targets(&named.name)) {
+        Some(named) => named.listed,
+        None => Listed {
+            version: 0,
+            measured: false,
+            length: 0,
+            hashed: false,
+            digest: Id { bytes: [0; 32] },
+        },
     }
 }
 
 // ---- Refusal 8: "Length and digest are compared where listed"
 
+#[tactic(auto, unfolding(rules::specs::Conditions::other_length, records::specs::View::view_listed, canonical_json::specs::Fields::keep))]
 pub fn other_length(l: Listed, n: u64) -> bool
     ensures { result ≡ other_length (view_listed l) n }
 {
-    if !l.measured {
-        return false;
-    }
-    n != l.length
+    l.measured && n != l.length
 }
 
 // Whether d is that digest, 32 bytes.
 pub fn same_digest(d: &[u8], id: Id) -> bool
     ensures { result ≡ same d.now (view_id id) }
 {
-    if d.len() != records::DIGEST {
-        return false;
-    }
-    let x = id.bytes;
-    base::same_window(d, 0, &x, 0, records::DIGEST)
+    d == id.bytes.as_slice()
 }
 
+#[tactic(auto, unfolding(rules::specs::Conditions::other_digest, records::specs::View::view_listed, canonical_json::specs::Fields::keep))]
 pub fn other_digest(l: Listed, d: &[u8]) -> bool
     ensures { result ≡ other_digest (view_listed l) d.now }
 {
-    if !l.hashed {
-        return false;
-    }
-    !same_digest(d, l.digest)
+    l.hashed && !same_digest(d, l.digest)
 }

@@ -1,1 +1,2 @@
 pub mod MeantLaws
+pub mod ListLaws

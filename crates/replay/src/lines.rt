@@ -3,177 +3,125 @@ use answers::Answer;
 use arguments::Problem;
 use date::Time;
 use inspect::{EntryRead, Looked};
+use itoa::Integer;
 use records::Id;
+use script::Line;
 use state::{Version, Versions};
 use std::io;
 use tuf::{Image, PublicKey, Step};
 
-// Room for a line; none is as long.
-const LINE: usize = 512;
-
-fn put(rt: &impl Print, text: &[u8]) -> io::Result<()> {
-    rt.write_all(text)
-}
-
-// Writes the first `at` bytes of a line.
-fn put_line(rt: &impl Print, line: &mut [u8], at: usize) -> io::Result<()> {
-    let end = script::append(line, at, b"\n");
-    put(rt, &line[..end])
-}
-
-// ---- Errors
-
-fn put_error(rt: &impl Print, number: u64, reason: &[u8]) -> io::Result<()> {
-    let mut space = [0u8; LINE];
-    let line: &mut [u8] = &mut space;
-    let a = script::append(line, 0, b"error ");
-    let b = script::append_number(line, a, number);
-    let c = script::append(line, b, b" ");
-    let d = script::append(line, c, reason);
-    put_line(rt, line, d)
-}
-
-pub fn too_long(rt: &impl Print, number: u64) -> io::Result<()> {
-    put_error(rt, number, b"line too long")
+// Ends a line and writes it.
+fn put(rt: &impl Print, mut line: Line) -> io::Result<()> {
+    line.push(b"\n");
+    rt.write_all(line.text())
 }
 
 pub fn problem(rt: &impl Print, number: u64, problem: Problem) -> io::Result<()> {
-    match problem {
-        Problem::None => Ok(()),
-        Problem::Call => put_error(rt, number, b"unknown call"),
-        Problem::Words => put_error(rt, number, b"wrong number of words"),
-        Problem::Bytes => put_error(rt, number, b"bad bytes"),
-        Problem::Unopened => put_error(rt, number, b"cannot open the file"),
-        Problem::TooMany => put_error(rt, number, b"too many bytes"),
-        Problem::Number => put_error(rt, number, b"bad number"),
-    }
+    println!(rt; "error {number} {problem}")
 }
 
 // ---- Pieces
 
-fn append_count(line: &mut [u8], at: usize, n: usize) -> usize {
-    let space = script::append(line, at, b" ");
-    script::append_number(line, space, n as u64)
+// A line that begins with this name.
+fn named(name: &[u8]) -> Line {
+    let mut line = Line::new();
+    line.push(name);
+    line
 }
 
-fn append_answer(line: &mut [u8], at: usize, answer: Answer) -> usize {
-    let number = answers::number(answer);
-    append_count(line, at, number as usize)
+// A line that begins with the name of a call and its number.
+fn answered(name: &[u8], answer: Answer) -> Line {
+    let mut line = named(name);
+    push_number(&mut line, answers::number(answer));
+    line
 }
 
-fn append_bytes(line: &mut [u8], at: usize, bytes: &[u8]) -> usize {
-    let space = script::append(line, at, b" ");
-    script::append_hex(line, space, bytes)
+fn push_number<N: Integer>(line: &mut Line, n: N) {
+    line.push(b" ");
+    line.push_number(n);
 }
 
-fn append_version(line: &mut [u8], at: usize, role: &[u8], version: Version) -> usize {
-    let a = script::append(line, at, role);
-    let b = script::append(line, a, b"=");
+fn push_bytes(line: &mut Line, bytes: &[u8]) {
+    line.push(b" ");
+    line.push_hex(bytes);
+}
+
+fn push_version(line: &mut Line, role: &[u8], version: Version) {
+    line.push(b" ");
+    line.push(role);
+    line.push(b"=");
     if version.held {
-        return script::append_number(line, b, version.number);
+        line.push_number(version.number);
+    } else {
+        line.push(b"-");
     }
-    script::append(line, b, b"-")
 }
 
-fn append_state(line: &mut [u8], at: usize, v: Versions) -> usize {
-    let start = v.start;
-    let a = append_version(line, at, b" root", v.root);
-    let b = append_version(line, a, b" timestamp", v.timestamp);
-    let c = append_version(line, b, b" snapshot", v.snapshot);
-    let d = append_version(line, c, b" targets", v.targets);
-    let e = script::append(line, d, b" time=");
-    script::append_count(line, e, start.seconds)
+fn push_state(line: &mut Line, v: Versions) {
+    push_version(line, b"root", v.root);
+    push_version(line, b"timestamp", v.timestamp);
+    push_version(line, b"snapshot", v.snapshot);
+    push_version(line, b"targets", v.targets);
+    line.push(b" time=");
+    line.push_number(v.start.seconds);
 }
 
 // ---- Answers
 
 // The name of a call and its number.
 pub fn number(rt: &impl Print, name: &[u8], answer: Answer) -> io::Result<()> {
-    let mut space = [0u8; LINE];
-    let line: &mut [u8] = &mut space;
-    let a = script::append(line, 0, name);
-    let b = append_answer(line, a, answer);
-    put_line(rt, line, b)
+    put(rt, answered(name, answer))
 }
 
 pub fn no_date(rt: &impl Print) -> io::Result<()> {
-    put(rt, b"date bad\n")
+    put(rt, named(b"date bad"))
 }
 
 pub fn date(rt: &impl Print, time: Time) -> io::Result<()> {
-    let mut space = [0u8; LINE];
-    let line: &mut [u8] = &mut space;
-    let a = script::append(line, 0, b"date ");
-    let b = script::append_count(line, a, time.seconds);
-    put_line(rt, line, b)
+    let mut line = named(b"date");
+    push_number(&mut line, time.seconds);
+    put(rt, line)
 }
 
 pub fn digest(rt: &impl Print, id: Id) -> io::Result<()> {
-    let mut space = [0u8; LINE];
-    let line: &mut [u8] = &mut space;
-    let a = script::append(line, 0, b"sha256");
-    let b = append_bytes(line, a, &id.bytes);
-    put_line(rt, line, b)
+    let mut line = named(b"sha256");
+    push_bytes(&mut line, &id.bytes);
+    put(rt, line)
 }
 
 pub fn looked(rt: &impl Print, r: Looked) -> io::Result<()> {
-    let mut space = [0u8; LINE];
-    let line: &mut [u8] = &mut space;
-    let answer = r.answer;
-    let a = script::append(line, 0, b"look");
-    let b = append_answer(line, a, answer);
-    let c = append_count(line, b, r.start);
-    let d = append_count(line, c, r.length);
-    let e = append_count(line, d, r.entries);
-    put_line(rt, line, e)
+    let mut line = answered(b"look", r.answer);
+    push_number(&mut line, r.start);
+    push_number(&mut line, r.length);
+    push_number(&mut line, r.entries);
+    put(rt, line)
 }
 
 pub fn entry(rt: &impl Print, r: EntryRead) -> io::Result<()> {
-    let mut space = [0u8; LINE];
-    let line: &mut [u8] = &mut space;
-    let answer = r.answer;
-    let keyid = r.keyid;
-    let a = script::append(line, 0, b"entry");
-    let b = append_answer(line, a, answer);
-    let c = append_bytes(line, b, &keyid.bytes);
-    let d = append_bytes(line, c, &r.sig);
-    put_line(rt, line, d)
+    let mut line = answered(b"entry", r.answer);
+    push_bytes(&mut line, &r.keyid.bytes);
+    push_bytes(&mut line, &r.sig);
+    put(rt, line)
 }
 
 pub fn key(rt: &impl Print, r: PublicKey) -> io::Result<()> {
-    let mut space = [0u8; LINE];
-    let line: &mut [u8] = &mut space;
-    let answer = r.answer;
-    let public = r.public;
-    let a = script::append(line, 0, b"key");
-    let b = append_answer(line, a, answer);
-    let c = append_bytes(line, b, &public.bytes);
-    put_line(rt, line, c)
+    let mut line = answered(b"key", r.answer);
+    push_bytes(&mut line, &r.public.bytes);
+    put(rt, line)
 }
 
 pub fn image(rt: &impl Print, r: Image) -> io::Result<()> {
-    let mut space = [0u8; LINE];
-    let line: &mut [u8] = &mut space;
-    let answer = r.answer;
-    let digest = r.digest;
-    let a = script::append(line, 0, b"find");
-    let b = append_answer(line, a, answer);
-    let c = script::append(line, b, b" ");
-    let d = script::append_number(line, c, r.length);
-    let e = append_bytes(line, d, &digest.bytes);
-    let f = append_count(line, e, r.compared);
-    put_line(rt, line, f)
+    let mut line = answered(b"find", r.answer);
+    push_number(&mut line, r.length);
+    push_bytes(&mut line, &r.digest.bytes);
+    push_number(&mut line, r.compared);
+    put(rt, line)
 }
 
 pub fn step(rt: &impl Print, name: &[u8], r: Step) -> io::Result<()> {
-    let mut space = [0u8; LINE];
-    let line: &mut [u8] = &mut space;
-    let answer = r.answer;
-    let next = r.state;
-    let a = script::append(line, 0, name);
-    let b = append_answer(line, a, answer);
-    let c = append_state(line, b, next.versions());
-    put_line(rt, line, c)
+    let mut line = answered(name, r.answer);
+    push_state(&mut line, r.state.versions());
+    put(rt, line)
 }
 
 // A line for a record, where it is held.
@@ -181,13 +129,11 @@ fn held(rt: &impl Print, role: &[u8], version: Version) -> io::Result<()> {
     if !version.held {
         return Ok(());
     }
-    let mut space = [0u8; LINE];
-    let line: &mut [u8] = &mut space;
-    let a = script::append(line, 0, b"held: ");
-    let b = script::append(line, a, role);
-    let c = script::append(line, b, b", version ");
-    let d = script::append_number(line, c, version.number);
-    put_line(rt, line, d)
+    let mut line = named(b"held: ");
+    line.push(role);
+    line.push(b", version ");
+    line.push_number(version.number);
+    put(rt, line)
 }
 
 pub fn versions(rt: &impl Print, v: Versions) -> io::Result<()> {
@@ -195,9 +141,7 @@ pub fn versions(rt: &impl Print, v: Versions) -> io::Result<()> {
     held(rt, b"timestamp", v.timestamp)?;
     held(rt, b"snapshot", v.snapshot)?;
     held(rt, b"targets", v.targets)?;
-    let mut space = [0u8; LINE];
-    let line: &mut [u8] = &mut space;
-    let a = script::append(line, 0, b"state");
-    let b = append_state(line, a, v);
-    put_line(rt, line, b)
+    let mut line = named(b"state");
+    push_state(&mut line, v);
+    put(rt, line)
 }

@@ -4,8 +4,9 @@
 mod calls;
 mod lines;
 
-ghost use Rattle.std.specs.Prelude.{◌≡◌, ◌+◌, ◌≤◌, length, take, IfOk};
+ghost use Rattle.std.specs.Prelude.{◌≡◌, ◌+◌, ◌≤◌, length, take, slice_range, IfOk};
 
+use arguments::Problem;
 use std::io;
 use std::io::Read;
 use std::rt::Files;
@@ -20,94 +21,98 @@ const BYTES: usize = 3145729;
 // ---- The script, line by line
 
 // Where the run stands: the bytes of the buffer that are still to be played are those from `from` up to `to`.
-#[derive(Clone, Copy)]
+#[derive(Drop)]
 struct Progress {
     from: usize,
     to: usize,
-    // the number of the line that begins at `from`
+    // the number of the line that begins at `from`; no script has more than the highest
     line: u64,
     // the rest of a line that was too long is passed over
     over: bool,
-    done: bool,
     state: State,
 }
 
-fn at_the_start(state: State) -> Progress {
-    Progress {
-        from: 0,
-        to: 0,
-        line: 1,
-        over: false,
-        done: false,
-        state,
-    }
-}
-
-fn finished(state: State) -> Progress {
-    Progress {
-        from: 0,
-        to: 0,
-        line: 0,
-        over: false,
-        done: true,
-        state,
-    }
-}
-
-// The number of the next line; no script has more.
-fn after(line: u64) -> u64 {
-    if line < u64::MAX { line + 1 } else { line }
-}
-
-// The end of a line that was too long is not played: it was reported at its beginning.
-fn play_unless(
-    rt: &(impl Files + Print),
-    over: bool,
-    state: State,
-    line: &[u8],
-    number: u64,
-    bytes: &mut [u8],
-) -> io::Result<State> {
-    if over {
-        return Ok(state);
-    }
-    calls::play(rt, state, line, number, bytes)
-}
-
-fn report_unless(rt: &impl Print, over: bool, number: u64) -> io::Result<()> {
-    if over {
-        return Ok(());
-    }
-    lines::too_long(rt, number)
-}
-
-// The first place from `from` up to `to` that holds b, or `to`.
-fn place_of(s: &[u8], from: usize, to: usize, b: u8) -> usize
-    requires { (from ≤ to) × (to ≤ length s.now) }
-    ensures { (from ≤ result) × (result ≤ to) }
-{
-    let mut i = from;
-    while i < to {
-        if s[i] == b {
-            return i;
+impl Progress {
+    fn start() -> Progress {
+        Progress {
+            from: 0,
+            to: 0,
+            line: 1,
+            over: false,
+            state: State::blank(),
         }
-        i += 1;
     }
-    i
+
+    // Plays the line at `from`. The end of one that was too long is not played: it was reported at its beginning.
+    fn play(&mut self, rt: &(impl Files + Print), line: &[u8], bytes: &mut [u8]) -> io::Result<()> {
+        if self.over {
+            return Ok(());
+        }
+        let number = self.line;
+        calls::play(rt, &mut self.state, line, number, bytes)
+    }
+
+    // One line, or one reading; whether the script goes on.
+    fn turn(
+        &mut self,
+        rt: &(impl Files + Print),
+        script: &mut impl Read,
+        buf: &mut [u8],
+        bytes: &mut [u8],
+    ) -> io::Result<bool> {
+        let Some(rest) = buf.get(self.from..self.to) else {
+            return Ok(false);
+        };
+        if let Some(n) = rest.iter().position(|b| *b == b'\n') {
+            let behind = self.from + n + 1;
+            self.play(rt, &rest[..n], bytes)?;
+            self.from = behind;
+            self.line = self.line.saturating_add(1);
+            self.over = false;
+            return Ok(true);
+        }
+        if rest.len() == buf.len() {
+            if !self.over {
+                lines::problem(rt, self.line, Problem::TooLong)?;
+            }
+            self.from = 0;
+            self.to = 0;
+            self.over = true;
+            return Ok(true);
+        }
+        self.read_on(rt, script, buf, bytes)
+    }
+
+    // What is in the buffer has no line end: reads more of the line, or plays what there is at the script's end.
+    fn read_on(
+        &mut self,
+        rt: &(impl Files + Print),
+        script: &mut impl Read,
+        buf: &mut [u8],
+        bytes: &mut [u8],
+    ) -> io::Result<bool>
+        requires { (self.old.from ≤ self.old.to) × (self.old.to ≤ length buf.old) }
+    {
+        let n = shift(buf, self.from, self.to);
+        let got = fill(script, buf, n)?;
+        if got == 0 {
+            self.play(rt, &buf[..n], bytes)?;
+            return Ok(false);
+        }
+        self.from = 0;
+        self.to = n + got;
+        Ok(true)
+    }
 }
 
-// Moves the bytes from `from` up to `to` to the front.
+// Moves the bytes from `from` up to `to` to the front; how many they are.
 fn shift(buf: &mut [u8], from: usize, to: usize) -> usize
     requires { (from ≤ to) × (to ≤ length buf.old) }
-    ensures { result + from ≡ to }
+    ensures count { result + from ≡ to }
+    ensures moved { take result buf.new ≡ slice_range buf.old from to }
 {
-    let n = to - from;
-    let mut i = 0;
-    while i < n {
-        buf[i] = buf[from + i];
-        i += 1;
-    }
-    n
+    buf.copy_within(from..to, 0);
+    to - from
 }
 
 // Reads once, behind the first `to` bytes; how many came. These stay, also where the reading fails.
@@ -119,98 +124,18 @@ fn fill(script: &mut impl Read, buf: &mut [u8], to: usize) -> io::Result<usize>
     script.read(&mut buf[to..])
 }
 
-// What is in the buffer has no line end: reads more of the line, or plays what there is at the script's end.
-fn read_on(
-    rt: &(impl Files + Print),
-    script: &mut impl Read,
-    buf: &mut [u8],
-    p: Progress,
-    bytes: &mut [u8],
-) -> io::Result<Progress> {
-    let from = p.from;
-    let to = p.to;
-    let state = p.state;
-    if to < from {
-        return Ok(finished(state));
-    }
-    if buf.len() < to {
-        return Ok(finished(state));
-    }
-    let n = shift(buf, from, to);
-    let got = fill(script, buf, n)?;
-    if 0 < got {
-        return Ok(Progress {
-            from: 0,
-            to: n + got,
-            line: p.line,
-            over: p.over,
-            done: false,
-            state,
-        });
-    }
-    let last = play_unless(rt, p.over, state, &buf[..n], p.line, bytes)?;
-    Ok(finished(last))
-}
-
-// One line, or one reading.
-fn turn(
-    rt: &(impl Files + Print),
-    script: &mut impl Read,
-    buf: &mut [u8],
-    p: Progress,
-    bytes: &mut [u8],
-) -> io::Result<Progress> {
-    let from = p.from;
-    let to = p.to;
-    let state = p.state;
-    if to < from {
-        return Ok(finished(state));
-    }
-    if buf.len() < to {
-        return Ok(finished(state));
-    }
-    let e = place_of(buf, from, to, b'\n');
-    if e < to {
-        let behind = e + 1;
-        let next = play_unless(rt, p.over, state, &buf[from..e], p.line, bytes)?;
-        return Ok(Progress {
-            from: behind,
-            to,
-            line: after(p.line),
-            over: false,
-            done: false,
-            state: next,
-        });
-    }
-    if buf.len() <= to - from {
-        report_unless(rt, p.over, p.line)?;
-        return Ok(Progress {
-            from: 0,
-            to: 0,
-            line: p.line,
-            over: true,
-            done: false,
-            state,
-        });
-    }
-    read_on(rt, script, buf, p, bytes)
-}
-
-// A proved loop has to end, and nothing says that a script does: it counts down from a number that no run uses up.
+// A proved loop has to end, and nothing says that a script does: it takes as many turns as no run uses up.
 fn run(
     rt: &(impl Files + Print),
     script: &mut impl Read,
     buf: &mut [u8],
     bytes: &mut [u8],
 ) -> io::Result<()> {
-    let mut p = at_the_start(State::blank());
-    let mut turns = u64::MAX;
-    while 0 < turns {
-        p = turn(rt, script, buf, p, bytes)?;
-        if p.done {
-            return Ok(());
+    let mut progress = Progress::start();
+    for _i in 0..u64::MAX {
+        if !progress.turn(rt, script, buf, bytes)? {
+            break;
         }
-        turns -= 1;
     }
     Ok(())
 }

@@ -1,6 +1,8 @@
 -- Blocks of a byte string: their words by place, and the hash value over a part of the blocks.
-use Rattle.std.proofs.Common.{◌≡◌, ℕ, zero, suc, ◌+◌, ◌*◌, ◌<◌, ◌≤◌, List, ◌++◌, length, get_or, take, drop, set, refl, ap, arith, get_or-drop, take-suc, take-suc-set}
+use Rattle.std.proofs.Common.{◌≡◌, ℕ, zero, suc, ◌+◌, ◌*◌, ◌<◌, ◌≤◌, List, [], ◌++◌, ◌∙◌, get_or-take, length, get_or, take, drop, set, refl, ap, arith, get_or-drop, take-suc, take-suc-set}
 use lib.ListN.{get_or-append}
+use lib.Seq.{drop-drop}
+use Rattle.std.specs.Simd.{first_chunks}
 use Rattle.base.specs.Bytes.{Bytes}
 use Rattle.sha256.specs.Compress.{compress}
 use Rattle.sha256.specs.Message.{word_at, words_at, hashed}
@@ -49,13 +51,38 @@ module _ (l : Bytes) where
   words_at-drop p i zero = refl
   words_at-drop p i (suc n) = let e : p + (i + 4) ≡ p + i + 4 = omega arith in rw (word_at-drop p i, words_at-drop p (i + 4) n, e)
 
+  words_at-take : (i m n : ℕ) → i + n * 4 ≤ m → words_at (take m l) i n ≡ words_at l i n
+  unfolding words_at word_at
+  words_at-take i m zero h = refl
+  words_at-take i m (suc n) h =
+      rw (
+        get_or-take m l i 0 (omega arith),
+        get_or-take m l (i + 1) 0 (omega arith),
+        get_or-take m l (i + 2) 0 (omega arith),
+        get_or-take m l (i + 3) 0 (omega arith),
+        words_at-take (i + 4) m n (omega arith),
+      )
+
+-- the library's chunk at place b
+chunk-at : (l : Bytes) (n b : ℕ) → b < n → get_or (first_chunks 64 n l) b [] ≡ take 64 (drop (b * 64) l)
+chunk-at l zero b h = absurd (omega arith)
+chunk-at l (suc n) zero h = refl
+chunk-at l (suc n) (suc b) h = let e : 64 + b * 64 ≡ suc b * 64 = omega arith in chunk-at (drop 64 l) n b (omega arith) ∙ rw (drop-drop (b * 64) 64 l, e)
+
+-- and the words of that block
+chunk-words : (l : Bytes) (n b : ℕ) → b < n → words_at (get_or (first_chunks 64 n l) b []) 0 16 ≡ words_at l (b * 64) 16
+chunk-words l n b h =
+    let e : b * 64 + 0 ≡ b * 64 = omega arith in
+    rw (chunk-at l n b h, words_at-take (drop (b * 64) l) 0 64 16 (omega arith), words_at-drop l (b * 64) 0 16, e)
+
 -- ## The hash value
 
 module _ (v : Hash) (l : Bytes) where
   -- one turn of the loop over the blocks
-  pub hashed-next : (b : ℕ) (m : List ℕ) (h r : Hash) → h ≡ hashed v l b → take 16 m ≡ words_at l (b * 64) 16 → r ≡ compress h (take 16 m) → r ≡ hashed v l (b + 1)
+  pub hashed-next : (n b : ℕ) (m : List ℕ) (h r : Hash) → b < n → h ≡ hashed v l b → take 16 m ≡ words_at (get_or (first_chunks 64 n l) b []) 0 16
+      → r ≡ compress h (take 16 m) → r ≡ hashed v l (b + 1)
   unfolding hashed
-  hashed-next b m h r e f g = let a : b + 1 ≡ suc b = omega arith in rw (a, g, e, f)
+  hashed-next n b m h r k e f g = let a : b + 1 ≡ suc b = omega arith in rw (a, g, e, f, chunk-words l n b k)
 
   -- the first blocks, whatever follows them
   pub hashed-append : (r : Bytes) (n : ℕ) → n * 64 ≤ length l → hashed v (l ++ r) n ≡ hashed v l n

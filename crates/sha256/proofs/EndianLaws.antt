@@ -2,6 +2,7 @@
 use Rattle.std.proofs.Common.{◌≡◌, ℕ, zero, suc, ◌+◌, ◌*◌, ◌/◌, ◌%◌, ◌^◌, ◌<◌, List, [], ◌∷◌, ◌++◌, length, get_or, sym, refl, ap, ◌∙◌, pow-suc, arith, length-append, pow-add}
 use mathlib.Core.List.{Memᴰ}
 use lib.Pow.{field, mod-mod-pow}
+use Rattle.std.specs.Int.{bytes_high_first}
 use Rattle.base.specs.Bytes.{Bytes}
 use Rattle.sha256.specs.Message.{big_endian, word_bytes}
 
@@ -22,6 +23,13 @@ byte_at (suc k) n (suc j) e h = byte_at k n j e (omega arith)
 -- a bound of 2 ^ 64 changes none of the 8 lowest bytes
 pub byte-mod : (n e i : ℕ) → i + 8 + e ≡ 64 → n % 2 ^ 64 / 2 ^ e % 256 ≡ n / 2 ^ e % 256
 byte-mod n e i h = ap (λ (k : ℕ). n % 2 ^ k / 2 ^ e % 256) (sym h) ∙ ap (λ (x : ℕ). x % 256) (field n (i + 8) e) ∙ mod-mod-pow (n / 2 ^ e) i 8
+
+-- as the library's `to_be_bytes` has them
+pub to_bytes : (k n : ℕ) → bytes_high_first k n ≡ big_endian k n
+unfolding big_endian
+to_bytes zero n = refl
+to_bytes (suc zero) n = let e : n % 256 ≡ n / 256 ^ 0 % 256 = omega arith in ap (λ (b : ℕ). b ∷ []) e
+to_bytes (suc (suc k)) n = ap (λ (t : Bytes). (n / 256 ^ suc k % 256) ∷ t) (to_bytes (suc k) n)
 
 pub length-big_endian : (k n : ℕ) → length (big_endian k n) ≡ k
 unfolding big_endian

@@ -1,5 +1,6 @@
 -- One turn of the loops over the schedule and the rounds.
-use Rattle.std.proofs.Common.{◌≡◌, ℕ, suc, ◌+◌, ◌-◌, ◌<◌, ◌≤◌, List, length, get_or, take, drop, set, arith, drop_of_length-le, drop-cons, get_or-take, take-suc-set}
+use Rattle.std.proofs.Common.{◌≡◌, ℕ, suc, ◌+◌, ◌-◌, ◌<◌, ◌≤◌, List, [], ◌∷◌, length, refl, get_or, take, set, arith, get_or-take, take-suc-set}
+use mathlib.Core.Logic.{◌⊎◌, inl, inr}
 use Rattle.sha256.specs.Words.{add, σ₀, σ₁}
 use Rattle.sha256.specs.Compress.{next_word, schedule, round, rounds}
 use Rattle.sha256.specs.declared.Hash.{Hash}
@@ -20,11 +21,15 @@ schedule-next m w t v h k e f =
     let c : t - 16 + 16 ≡ t = omega arith in
     rw (a, take-suc-set w t v k, b, ← e, c, next-take w t h, f)
 
-pub rounds-next : (v : Hash) (ks ws : List ℕ) (t : ℕ) → t < length ks → t < length ws
-    → rounds v (drop t ks) (drop t ws) ≡ rounds (round v (get_or ks t 0) (get_or ws t 0)) (drop (t + 1) ks) (drop (t + 1) ws)
+-- the next round of those that are left
+pub rounds-next : (v r : Hash) (k w : ℕ) (kl ks wl ws : List ℕ) → kl ≡ k ∷ ks → wl ≡ w ∷ ws → r ≡ round v k w → rounds v kl wl ≡ rounds r ks ws
 unfolding rounds
-rounds-next v ks ws t p q = let e : t + 1 ≡ suc t = omega arith in rw (e, drop-cons ks t 0 p, drop-cons ws t 0 q)
+rounds-next v r k w kl ks wl ws e f g = rw (e, f, g)
 
-pub rounds-end : (v : Hash) (ks ws : List ℕ) (t : ℕ) → length ks ≤ t → rounds v (drop t ks) ws ≡ v
+-- none is left where the constants or the words are used up
+pub rounds-end : (v : Hash) (ks ws : List ℕ) → (length ks ≡ 0) ⊎ (length ws ≡ 0) → rounds v ks ws ≡ v
 unfolding rounds
-rounds-end v ks ws t p = rw (drop_of_length-le ks p)
+rounds-end v [] ws h = refl
+rounds-end v (k ∷ ks) [] h = refl
+rounds-end v (k ∷ ks) (w ∷ ws) (inl e) = absurd (omega arith)
+rounds-end v (k ∷ ks) (w ∷ ws) (inr e) = absurd (omega arith)

@@ -37,18 +37,11 @@ const LENGTHS: usize = 0x2000000000000000;
 const DIGEST: usize = 32;
 
 // Addition modulo 2^32.
+#[tactic(auto, unfolding(crate::specs::Words::add))]
 fn plus(x: u32, y: u32) -> u32
     ensures { result ≡ add x y }
 {
-    std::num::wrapping_add_u32(x, y)
-}
-
-// ROTR, the rotation to the right by n.
-fn rotate(x: u32, n: u32) -> u32
-    requires { (0 < n) × (n < 32) }
-    ensures { result ≡ rotr n x }
-{
-    (x >> n) | (x << (32 - n))
+    x.wrapping_add(y)
 }
 
 // Ch: bits of y where x has a bit 1, else those of z.
@@ -68,25 +61,25 @@ fn majority(x: u32, y: u32, z: u32) -> u32
 fn big_sigma_0(x: u32) -> u32
     ensures { result ≡ Σ₀ x }
 {
-    rotate(x, 2) ^ rotate(x, 13) ^ rotate(x, 22)
+    x.rotate_right(2) ^ x.rotate_right(13) ^ x.rotate_right(22)
 }
 
 fn big_sigma_1(x: u32) -> u32
     ensures { result ≡ Σ₁ x }
 {
-    rotate(x, 6) ^ rotate(x, 11) ^ rotate(x, 25)
+    x.rotate_right(6) ^ x.rotate_right(11) ^ x.rotate_right(25)
 }
 
 fn small_sigma_0(x: u32) -> u32
     ensures { result ≡ σ₀ x }
 {
-    rotate(x, 7) ^ rotate(x, 18) ^ (x >> 3)
+    x.rotate_right(7) ^ x.rotate_right(18) ^ (x >> 3)
 }
 
 fn small_sigma_1(x: u32) -> u32
     ensures { result ≡ σ₁ x }
 {
-    rotate(x, 17) ^ rotate(x, 19) ^ (x >> 10)
+    x.rotate_right(17) ^ x.rotate_right(19) ^ (x >> 10)
 }
 
 // A word of the schedule, by those 2, 7, 15 and 16 places before it.
@@ -101,10 +94,8 @@ fn expand(m: [u32; ROUNDS]) -> [u32; ROUNDS]
     ensures { result ≡ schedule (take 16 m) 48 }
 {
     let mut w = m;
-    let mut t = WORDS;
-    while t < ROUNDS {
+    for t in WORDS..ROUNDS {
         w[t] = next_word(w[t - 2], w[t - 7], w[t - 15], w[t - 16]);
-        t += 1;
     }
     w
 }
@@ -128,16 +119,13 @@ fn round(v: Hash, k: u32, w: u32) -> Hash
     }
 }
 
-// All rounds of a block. The constants are copied before the loop: `K[t]` would copy them at every turn.
+// All rounds of a block. The constants are taken once before the loop: `K[t]` would copy them at every turn.
 fn all_rounds(h: Hash, w: [u32; ROUNDS]) -> Hash
     ensures { result ≡ rounds h constants w }
 {
-    let k = constants::K;
     let mut v = h;
-    let mut t: usize = 0;
-    while t < ROUNDS {
-        v = round(v, k[t], w[t]);
-        t += 1;
+    for (k, word) in constants::K.iter().zip(&w) {
+        v = round(v, *k, *word);
     }
     v
 }
@@ -165,35 +153,21 @@ fn compress(h: Hash, m: [u32; ROUNDS]) -> Hash
     sum(all_rounds(h, expand(m)), h)
 }
 
-fn wide(b: u8) -> u32
-    ensures value { result ≡ b }
-    ensures upper_bound { result < 256 }
-{
-    b as u32
-}
-
 // The word whose first byte is at place i.
 fn word_at(s: &[u8], i: usize) -> u32
     requires { i + 3 < length s.now }
     ensures { result ≡ word_at s.now i }
 {
-    let a = wide(s[i]);
-    let b = wide(s[i + 1]);
-    let c = wide(s[i + 2]);
-    let d = wide(s[i + 3]);
-    ((a * 256 + b) * 256 + c) * 256 + d
+    u32::from_be_bytes([s[i], s[i + 1], s[i + 2], s[i + 3]])
 }
 
-// The 16 words of the block from byte i on, in the first places.
-fn block_at(s: &[u8], i: usize) -> [u32; ROUNDS]
-    requires { i + 64 ≤ length s.now }
-    ensures { take 16 result ≡ words_at s.now i 16 }
+// The 16 words of a block, in the first places.
+fn block_words(block: &[u8; BLOCK]) -> [u32; ROUNDS]
+    ensures { take 16 result ≡ words_at block.now 0 16 }
 {
     let mut m = [0u32; ROUNDS];
-    let mut k: usize = 0;
-    while k < WORDS {
-        m[k] = word_at(s, i + k * 4);
-        k += 1;
+    for k in 0..WORDS {
+        m[k] = word_at(block, k * 4);
     }
     m
 }
@@ -202,12 +176,10 @@ fn block_at(s: &[u8], i: usize) -> [u32; ROUNDS]
 fn hash_blocks(h: Hash, s: &[u8]) -> Hash
     ensures { result ≡ hashed h s.now (length s.now / 64) }
 {
-    let count = s.len() / BLOCK;
+    let (blocks, _) = s.as_chunks::<BLOCK>();
     let mut v = h;
-    let mut b: usize = 0;
-    while b < count {
-        v = compress(v, block_at(s, b * BLOCK));
-        b += 1;
+    for block in blocks {
+        v = compress(v, block_words(block));
     }
     v
 }
@@ -225,7 +197,7 @@ fn length_byte(n: usize, j: usize) -> u8
     ensures { result ≡ slice_index (big_endian 8 (n * 8)) j }
 {
     let bits = n % LENGTHS * 8;
-    ((bits >> (56 - j * 8)) % 256) as u8
+    bits.to_be_bytes()[j]
 }
 
 // Byte i of the padded message.
@@ -253,10 +225,7 @@ fn tail_size(n: usize) -> usize
     ensures value { result ≡ n % 64 + 9 + zeros n }
     ensures upper_bound { result ≤ 128 }
 {
-    if n % BLOCK < ROOM {
-        return BLOCK;
-    }
-    2 * BLOCK
+    if n % BLOCK < ROOM { BLOCK } else { 2 * BLOCK }
 }
 
 // The bytes of the padded message that follow the message's whole blocks, in the first places.
@@ -266,10 +235,8 @@ fn tail(s: &[u8]) -> [u8; 2 * BLOCK]
     let start = s.len() / BLOCK * BLOCK;
     let size = tail_size(s.len());
     let mut t = [0u8; 2 * BLOCK];
-    let mut k: usize = 0;
-    while k < size {
+    for k in 0..size {
         t[k] = padded_byte(s, start + k);
-        k += 1;
     }
     t
 }
@@ -279,7 +246,7 @@ fn word_byte(w: u32, j: usize) -> u8
     requires { j < 4 }
     ensures { result ≡ slice_index (big_endian 4 w) j }
 {
-    ((w >> (24 - j * 8)) % 256) as u8
+    w.to_be_bytes()[j]
 }
 
 // The words of a hash value, one after the other.
@@ -288,10 +255,8 @@ fn hash_bytes(v: Hash) -> [u8; 32]
 {
     let words = [v.a, v.b, v.c, v.d, v.e, v.f, v.g, v.h];
     let mut out = [0u8; 32];
-    let mut i: usize = 0;
-    while i < DIGEST {
+    for i in 0..DIGEST {
         out[i] = word_byte(words[i / 4], i % 4);
-        i += 1;
     }
     out
 }
@@ -313,7 +278,7 @@ pub fn digest(s: &[u8]) -> [u8; 32]
     let h = hash_blocks(initial, s);
     let t = tail(s);
     let size = tail_size(s.len());
-    hash_bytes(hash_blocks(h, &t[0..size]))
+    hash_bytes(hash_blocks(h, &t[..size]))
 }
 
 // The lower-case character of a digit, by its value.
@@ -321,24 +286,7 @@ fn hex_char(d: u8) -> u8
     requires { d < 16 }
     ensures { result ≡ hex_digit d }
 {
-    if d < 10 {
-        return 48 + d;
-    }
-    87 + d
-}
-
-// The digit of a byte's four high bits.
-fn high_digit(b: u8) -> u8
-    ensures { result ≡ hex_digit (b / 16) }
-{
-    hex_char(b / 16)
-}
-
-// The digit of a byte's four low bits.
-fn low_digit(b: u8) -> u8
-    ensures { result ≡ hex_digit (b % 16) }
-{
-    hex_char(b % 16)
+    if d < 10 { b'0' + d } else { b'a' + (d - 10) }
 }
 
 // A digest as 64 lower-case hex digits.
@@ -346,12 +294,9 @@ pub fn hex(digest: [u8; 32]) -> [u8; 64]
     ensures { result ≡ hex_of digest }
 {
     let mut out = [0u8; 64];
-    let mut i: usize = 0;
-    while i < DIGEST {
-        let b = digest[i];
-        out[i * 2] = high_digit(b);
-        out[i * 2 + 1] = low_digit(b);
-        i += 1;
+    for (i, b) in digest.iter().enumerate() {
+        out[i * 2] = hex_char(*b / 16);
+        out[i * 2 + 1] = hex_char(*b % 16);
     }
     out
 }

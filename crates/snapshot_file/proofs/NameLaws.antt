@@ -1,10 +1,11 @@
 -- A name that is copied, what is said of it, and the list of names.
 use mathlib.Core.Path.{◌≡◌, refl, sym, ap, ◌∙◌}
 use mathlib.Core.List.{List}
+use Rattle.std.specs.Option.{is_some}
 use Rattle.std.specs.declared.option.Option.{Option}
 use Rattle.std.specs.declared.option.Option.TheVariants.{None, Some}
 use Rattle.canonical_json.specs.Options.{bind}
-use mathlib.Core.Bool.{Bool, true, false, ◌&&◌}
+use mathlib.Core.Bool.{Bool, true, false, and-false, ◌&&◌}
 use Prim.Native.Nat.{ℕ, ◌≤◌, ◌<◌, min}
 use native.Mathlib.Omega.{arith}
 use lib.Dec.{leb}
@@ -18,6 +19,8 @@ use Rattle.canonical_json.specs.Json.{Json, Members}
 use Rattle.canonical_json.specs.Fields.{members, lookup, field, count, keep}
 use Rattle.lookup.specs.Place.{PlaceOf, Finds, Takes}
 use Rattle.lookup.specs.Leaves.{Copies}
+use Rattle.lookup.specs.declared.Member.{Member}
+use Rattle.lookup.specs.declared.Member.TheVariants.{NoObject, End, At}
 use Rattle.lookup.proofs.StringLaws.{copied-front, copied-length}
 use Rattle.rules.specs.Limits.{max_name, max_names}
 use Rattle.rules.specs.Take.{◌>>=◌, name_of, each_named}
@@ -25,8 +28,6 @@ use Rattle.rules.specs.Records.{Named, Listed}
 use Rattle.rules.specs.Forms.{listed, named, names}
 use Rattle.records.specs.View.{view_name}
 use Rattle.forms.specs.Each.{each_member}
-use Rattle.forms.proofs.ListedLaws.{keep_in}
-use Rattle.snapshot_file.specs.View.{IsMissing}
 
 -- ## A name
 
@@ -36,33 +37,40 @@ module _ (t : Bytes) where
   name-empty h = rw (lt-leb 1 (length t) h)
 
   -- copied to the front of a buffer of that many bytes
-  pub name-is : (before after : Bytes) (fits : Bool) → length before ≡ max_name → 1 ≤ length t → Copies t before fits after
-      → keep fits (view_name (record { length = length t; bytes = after })) ≡ name_of max_name t
-  unfolding name_of keep view_name
-  name-is before after fits l h w =
-      let f : fits ≡ leb (length t) max_name = w.fits ∙ ap (λ (n : ℕ). leb (length t) n) l in
-      rw (le-leb 1 (length t) h) (go fits f)
-    where
-      go : (fits : Bool) → fits ≡ leb (length t) max_name → keep fits (window after 0 (min (length t) max_name)) ≡ keep (leb (length t) max_name) t
-      go false f = rw (← f) refl
-      go true f =
-          let s : length t ≤ max_name = leb-true (length t) max_name (sym f) in
-          let m : min (length t) max_name ≡ length t = omega arith in
-          let a : length after ≡ max_name = ap length w.is ∙ copied-length t before ∙ l in
-          let p : window after 0 (length t) ≡ take (length t) after = window-part after 0 (length t) (omega arith) in
-          let c : take (length t) after ≡ t = ap (λ (x : Bytes). take (length t) x) w.is ∙ copied-front t before (omega arith) in
-          rw (← f, m, p, c) refl
+  module _ (before after : Bytes) (l : length before ≡ max_name) where
+    name-fits : {fits : Bool} → Copies t before fits after → fits ≡ leb (length t) max_name
+    name-fits w = w.fits ∙ ap (λ (n : ℕ). leb (length t) n) l
+
+    pub name-long : Copies t before false after → None ≡ name_of max_name t
+    unfolding name_of keep
+    name-long w = rw (← name-fits w, and-false)
+
+    pub name-is : 1 ≤ length t → Copies t before true after → Some (view_name (record { length = length t; bytes = after })) ≡ name_of max_name t
+    unfolding name_of keep view_name
+    name-is h w =
+        let f = name-fits w in
+        let s : length t ≤ max_name = leb-true (length t) max_name (sym f) in
+        let m : min (length t) max_name ≡ length t = omega arith in
+        let a : length after ≡ max_name = ap length w.is ∙ copied-length t before ∙ l in
+        let p : window after 0 (length t) ≡ take (length t) after = window-part after 0 (length t) (omega arith) in
+        let c : take (length t) after ≡ t = ap (λ (x : Bytes). take (length t) x) w.is ∙ copied-front t before (omega arith) in
+        rw (le-leb 1 (length t) h, ← f, m, p, c) refl
 
 -- ## What is said of it
 
-module _ (t : Bytes) (v : Json) (ok : Bool) (n : Bytes) (e : keep ok n ≡ name_of max_name t) where
-  pub no_name : ok ≡ false → None ≡ named t v
-  unfolding named bind keep
-  no_name q = rw (← e, q)
+module _ (t : Bytes) (v : Json) where
+  pub no-name : None ≡ name_of max_name t → None ≡ named t v
+  unfolding named bind
+  no-name e = rw (← e)
 
-  pub named-is : ok ≡ true → (ok' : Bool) (l : Listed) → keep ok' l ≡ listed v → keep ok' (record { name = n; listed = l }) ≡ named t v
-  unfolding named bind keep
-  named-is q ok' l f = rw (← e, q, ← f) (keep_in ok' l (λ x. record { name = n; listed = x }))
+  module _ (n : Bytes) (e : Some n ≡ name_of max_name t) where
+    pub no-listed : None ≡ listed v → None ≡ named t v
+    unfolding named bind
+    no-listed f = rw (← e, ← f)
+
+    pub named-is : (l : Listed) → Some l ≡ listed v → Some (record { name = n; listed = l }) ≡ named t v
+    unfolding named bind
+    named-is l f = rw (← e, ← f)
 
 -- ## The list
 
@@ -82,29 +90,35 @@ names-by v = go (members v)
     go None = refl
     go (Some ms) = inner (leb 1 (count ms) && leb (count ms) max_names) ms (lookup (bytes "targets.json") ms) refl
 
-module _ (s : Bytes) (p : ℕ) (o : Option (List Named)) where
+module _ (s : Bytes) (p : ℕ) where
   -- the list is broken
-  pub names-broken : o ≡ None → Takes s p (each_member 1 max_names named) None → Takes s p names o
+  pub names-broken : Takes s p (each_member 1 max_names named) None → Takes s p names None
   unfolding bind
-  names-broken e t v h = e ∙ sym (names-by v ∙ rw (← t v h) (go (field (bytes "targets.json") v)))
+  names-broken t v h = sym (names-by v ∙ rw (← t v h) (go (field (bytes "targets.json") v)))
     where
       go : (x : Option Json) → ◌≡◌ {A = Option (List Named)} (x >>= λ _. None) None
       go None = refl
       go (Some w) = refl
 
-  module _ (r : Option ℕ) (b : Bool) (m : IsMissing r b) (w : Finds s p (field (bytes "targets.json")) r) where
-    pub targets_missing : b ≡ true → o ≡ None → Takes s p names o
+  module _ (r : Option ℕ) (w : Finds s p (field (bytes "targets.json")) r) where
+    pub targets-missing : is_some r ≡ false → Takes s p names None
     unfolding bind
-    targets_missing q e v h = let n : field (bytes "targets.json") v ≡ None = go r m (w v h) in e ∙ sym (names-by v ∙ rw n refl)
+    targets-missing q v h = sym (names-by v ∙ rw (go r q (w v h)) refl)
       where
-        go : (r : Option ℕ) → IsMissing r b → PlaceOf s r (field (bytes "targets.json") v) → field (bytes "targets.json") v ≡ None
-        go None m t = t
-        go (Some x) m t = never (sym q ∙ m)
+        go : (r : Option ℕ) → is_some r ≡ false → PlaceOf s r (field (bytes "targets.json") v) → field (bytes "targets.json") v ≡ None
+        go None q t = t
+        go (Some x) q t = never q
 
-    pub targets-there : b ≡ false → Takes s p (each_member 1 max_names named) o → Takes s p names o
+    pub targets-there : is_some r ≡ true → (o : Option (List Named)) → Takes s p (each_member 1 max_names named) o → Takes s p names o
     unfolding bind
-    targets-there q t v h = let z = go r m (w v h) in t v h ∙ sym (names-by v ∙ rw z.1 refl)
+    targets-there q o t v h = let z = go r q (w v h) in t v h ∙ sym (names-by v ∙ rw z.1 refl)
       where
-        go : (r : Option ℕ) → IsMissing r b → PlaceOf s r (field (bytes "targets.json") v) → (x : Json) × (field (bytes "targets.json") v ≡ Some x)
-        go None m t = never (sym m ∙ q)
-        go (Some x) m t = (t.0, t.1)
+        go : (r : Option ℕ) → is_some r ≡ true → PlaceOf s r (field (bytes "targets.json") v) → (x : Json) × (field (bytes "targets.json") v ≡ Some x)
+        go None q t = never (sym q)
+        go (Some x) q t = (t.0, t.1)
+
+-- a walk that has come to no member and to no end
+pub no-object : (m : Member) → ((i j : ℕ) → m ≡ At i j → ⊥) → ((e : ℕ) → m ≡ End e → ⊥) → m ≡ NoObject
+no-object NoObject a e = refl
+no-object (End x) a e = absurd (e x refl)
+no-object (At i j) a e = absurd (a i j refl)

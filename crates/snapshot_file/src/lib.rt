@@ -2,252 +2,118 @@
 #![tactic(auto)]
 
 ghost use Rattle.std.specs.Prelude.{◌≡◌, drop};
+ghost use Rattle.std.specs.Option.{option_map};
 ghost use Rattle.canonical_json.specs.Read.{raw};
-ghost use Rattle.lookup.specs.Place.{Takes, KnownEnd, FoundEnd};
+ghost use Rattle.lookup.specs.Place.{Reads};
 ghost use Rattle.rules.specs.Limits.{max_name};
 ghost use Rattle.rules.specs.Take.{name_of};
 ghost use Rattle.rules.specs.Forms.{named as named_form, names as names_form};
 ghost use Rattle.rules.specs.State.{snapshot_in};
-ghost use Rattle.forms.specs.Member.{TakesMust};
-ghost use Rattle.snapshot_file.specs.View.{view_name_at, view_named_at, view_names_at, IsMissing, view_snapshot_read};
+ghost use Rattle.records.specs.View.{view_name, view_named, view_names, view_snapshot};
+ghost use Rattle.forms.specs.Member.{ReadsMust};
+ghost use Rattle.envelope.specs.Open.{view_read};
 
-use date::Time;
-use lookup::{Found, Member};
-use records::{Entries, Name, Named, Names, Snapshot};
-
-// ---- A name
-
-#[derive(Clone, Copy)]
-pub struct NameAt {
-    pub ok: bool,
-    pub name: Name,
-}
+use envelope::{Fault, Signed};
+use lookup::{Member, Spanned};
+use records::{Name, Named, Names, Snapshot};
 
 // A name of 1 to 32 bytes, escapes undone: it is read just past its opening quote at `i`.
-fn name_in(s: &[u8], i: usize) -> NameAt
-    ensures { view_name_at result ≡ name_of max_name (raw (drop i s.now)) }
+fn name_in(s: &[u8], i: usize) -> Option<Name>
+    ensures { option_map view_name result ≡ name_of max_name (raw (drop i s.now)) }
 {
     let length = lookup::text_len(s, i);
     let mut bytes = [0u8; records::MAX_NAME];
     let fits = lookup::copy_text(s, i, &mut bytes);
-    if length < 1 {
-        return NameAt {
-            ok: false,
-            name: Name { length: 0, bytes },
-        };
+    if length < 1 || !fits {
+        return None;
     }
-    NameAt {
-        ok: fits,
-        name: Name { length, bytes },
-    }
+    Some(Name { length, bytes })
 }
 
-// ---- What is said of a name
-
-// A name with what is said of it, and where that ends.
-#[derive(Clone, Copy)]
-pub struct NamedAt {
-    pub ok: bool,
-    pub named: Named,
-    pub end: Option<usize>,
-}
-
-fn no_named() -> NamedAt
-    ensures { (view_named_at result ≡ None) × (result.end ≡ None) }
+// The member whose name is read at `i` and whose value stands at `at`: the name with what is said of it, and where that ends.
+fn named_at(s: &[u8], i: usize, at: usize) -> Option<Spanned<Named>>
+    ensures { Reads view_named s.now at (named_form (raw (drop i s.now))) result }
 {
-    let blank = forms::no_listed();
-    let listed = blank.listed;
-    NamedAt {
-        ok: false,
-        named: Named {
-            name: Name {
-                length: 0,
-                bytes: [0u8; records::MAX_NAME],
-            },
-            listed,
+    let name = name_in(s, i)?;
+    let said = forms::listed_at(s, at)?;
+    Some(Spanned {
+        value: Named {
+            name,
+            listed: said.value,
         },
-        end: None,
-    }
-}
-
-// The member whose name is read at `i` and whose value stands at `at`.
-fn named_at(s: &[u8], i: usize, at: usize) -> NamedAt
-    ensures { Takes s.now at (named_form (raw (drop i s.now))) (view_named_at result) × KnownEnd s.now at result.end }
-{
-    let read = name_in(s, i);
-    if !read.ok {
-        return no_named();
-    }
-    let name = read.name;
-    let said = forms::listed_at(s, at);
-    let listed = said.listed;
-    let end = said.end;
-    NamedAt {
-        ok: said.ok,
-        named: Named { name, listed },
-        end,
-    }
+        end: said.end,
+    })
 }
 
 // ---- "meta"
 
-// The names, and where they end.
-#[derive(Clone, Copy)]
-pub struct NamesAt {
-    pub ok: bool,
-    pub names: Names,
-    pub end: Option<usize>,
-}
-
-fn no_names() -> NamesAt
-    ensures { (view_names_at result ≡ None) × (result.end ≡ None) }
-{
-    let blank = no_named();
-    let named = blank.named;
-    NamesAt {
-        ok: false,
-        names: Names {
-            count: 0,
-            named: [named; records::MAX_NAMES],
+// What stands in an array of names where none was read.
+fn blank() -> Named {
+    Named {
+        name: Name {
+            length: 0,
+            bytes: [0u8; records::MAX_NAME],
         },
-        end: None,
+        listed: forms::listed(0, None, None),
     }
 }
 
 // 1 to 32 names, each with what is said of it, `targets.json` among them.
-fn names_at(s: &[u8], at: usize) -> NamesAt
-    ensures { Takes s.now at names_form (view_names_at result) × KnownEnd s.now at result.end }
+fn names_at(s: &[u8], at: usize) -> Option<Spanned<Names>>
+    ensures { Reads view_names s.now at names_form result }
 {
-    let none = no_named();
-    let blank = none.named;
-    let mut all = [blank; records::MAX_NAMES];
+    let mut named = [blank(); records::MAX_NAMES];
     let mut n: usize = 0;
     let mut targets = None;
     let mut m = lookup::first_member(s, at);
-    loop {
-        match m {
-            Member::At { name: i, value: v } => {
-                if records::MAX_NAMES <= n {
-                    return no_names();
-                }
-                let read = named_at(s, i, v);
-                if !read.ok {
-                    return no_names();
-                }
-                let named = read.named;
-                all[n] = named;
-                n += 1;
-                targets = lookup::noted(s, i, v, b"targets.json", targets);
-                let end = read.end;
-                m = lookup::next_member_by(s, v, end);
-            }
-            Member::NoObject => {
-                return no_names();
-            }
-            Member::End(e) => {
-                if n < 1 {
-                    return no_names();
-                }
-                if is_missing(targets) {
-                    return no_names();
-                }
-                return NamesAt {
-                    ok: true,
-                    names: Names {
-                        count: n,
-                        named: all,
-                    },
-                    end: Some(e),
-                };
-            }
+    while let Member::At { name, value } = m {
+        if records::MAX_NAMES <= n {
+            return None;
         }
+        let read = named_at(s, name, value)?;
+        named[n] = read.value;
+        n += 1;
+        targets = lookup::noted(s, name, value, b"targets.json", targets);
+        m = lookup::next_member_by(s, value, read.end);
     }
+    let Member::End(e) = m else {
+        return None;
+    };
+    if n < 1 || targets.is_none() {
+        return None;
+    }
+    Some(Spanned {
+        value: Names { count: n, named },
+        end: Some(e),
+    })
 }
 
-fn is_missing(found: Option<usize>) -> bool
-    ensures { IsMissing found result }
+fn meta_names(s: &[u8], found: Option<usize>) -> Option<Spanned<Names>>
+    ensures { ReadsMust view_names s.now found names_form result }
 {
-    match found {
-        None => {
-            return true;
-        }
-        Some(_) => {
-            return false;
-        }
-    }
-}
-
-fn meta_names(s: &[u8], found: Option<usize>) -> NamesAt
-    ensures { TakesMust s.now found names_form (view_names_at result) × FoundEnd s.now found result.end }
-{
-    match found {
-        None => {
-            return no_names();
-        }
-        Some(x) => {
-            return names_at(s, x);
-        }
-    }
+    names_at(s, found?)
 }
 
 // ---- The file
 
 // What a snapshot file says, with the keyids of its entries; or the refusal.
-#[derive(Clone, Copy)]
-pub struct SnapshotRead {
-    pub answer: u8,
-    pub snapshot: Snapshot,
-    pub entries: Entries,
-}
-
-fn refused(answer: u8) -> SnapshotRead
-    ensures { result.answer ≡ answer }
+pub fn read_snapshot(file: &[u8]) -> Result<Signed<Snapshot>, Fault>
+    ensures { view_read view_snapshot result ≡ snapshot_in file.now }
 {
-    let blank = no_names();
-    let names = blank.names;
-    let entries = envelope::no_ids();
-    SnapshotRead {
-        answer,
-        snapshot: Snapshot {
-            version: 0,
-            expires: Time { seconds: 0 },
-            names,
-        },
-        entries,
-    }
-}
-
-pub fn read_snapshot(file: &[u8]) -> SnapshotRead
-    ensures { view_snapshot_read result ≡ Some (snapshot_in file.now) }
-{
-    let opened = envelope::open_envelope(file);
-    if opened.answer != 0 {
-        return refused(opened.answer);
-    }
-    let start = opened.start;
-    let found = lookup::find_member(file, start, b"meta");
-    let body = meta_names(file, found);
-    if !body.ok {
-        return refused(envelope::BAD_FORM);
-    }
-    let end = body.end;
-    let header = envelope::header_at(file, start, b"snapshot", lookup::extent_of(found, end));
-    if !header.ok {
-        return refused(envelope::BAD_FORM);
-    }
+    let opened = envelope::open_envelope(file)?;
+    let found = lookup::find_member(file, opened.start, b"meta");
+    let meta = meta_names(file, found).ok_or(Fault::BadForm)?;
+    let body = lookup::extent_of(found, meta.end);
+    let header = envelope::header_at(file, opened.start, b"snapshot", body).ok_or(Fault::BadForm)?;
     if !header.known {
-        return refused(envelope::OTHER_SPEC);
+        return Err(Fault::OtherSpec);
     }
-    let expires = header.expires;
-    let names = body.names;
-    let entries = opened.entries;
-    SnapshotRead {
-        answer: 0,
-        snapshot: Snapshot {
+    Ok(Signed {
+        signed: Snapshot {
             version: header.version,
-            expires,
-            names,
+            expires: header.expires,
+            names: meta.value,
         },
-        entries,
-    }
+        entries: opened.entries,
+    })
 }

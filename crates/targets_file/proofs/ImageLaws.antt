@@ -1,6 +1,10 @@
 -- An image, a list of images that is read in one pass, and the image of a path in it.
 use mathlib.Core.Path.{◌≡◌, refl, sym, ap, ◌∙◌}
 use mathlib.Core.List.{List, [], ◌∷◌, ◌++◌}
+use mathlib.Core.Logic.{◌⊎◌, inl, inr}
+use Rattle.std.specs.Option.{option_map}
+use Rattle.std.specs.Ordering.{is_lt, is_eq}
+use Rattle.std.specs.declared.cmp.Ordering.{Ordering}
 use Rattle.std.specs.declared.option.Option.{Option}
 use Rattle.std.specs.declared.option.Option.TheVariants.{None, Some}
 use Rattle.canonical_json.specs.Options.{bind}
@@ -11,7 +15,6 @@ use lib.Dec.{leb}
 use lib.ListN.{length, drop}
 use borrow.Author.Tests.{le-leb, lt-leb}
 use Rattle.base.specs.Bytes.{Bytes, bytes, same, less}
-use Rattle.base.specs.Hex.{is_hex}
 use Rattle.base.proofs.TestLaws.{never}
 use Rattle.base.proofs.ByteLaws.{same-sym}
 use Rattle.base.proofs.OrderLaws.{less-differs}
@@ -21,12 +24,11 @@ use Rattle.canonical_json.specs.Fields.{members, field, count, keep, number}
 use Rattle.lookup.specs.Place.{Stands, Takes}
 use Rattle.lookup.specs.Walk.{FirstMember, NextMember}
 use Rattle.lookup.specs.Leaves.{order_of}
-use Rattle.lookup.specs.declared.Order.{Order}
-use Rattle.lookup.proofs.StandsLaws.{known-none}
-use Rattle.lookup.proofs.StringLaws.{is_smaller, is_equal, order_less, order_same}
+use Rattle.lookup.specs.declared.Spanned.{Spanned}
+use Rattle.lookup.proofs.StringLaws.{order_less, order_same}
 use Rattle.lookup.specs.declared.Member.{Member}
 use Rattle.lookup.specs.declared.Member.TheVariants as member
-use Rattle.rules.specs.Limits.{digest_size, max_length, max_targets, max_path}
+use Rattle.rules.specs.Limits.{max_length, max_targets, max_path}
 use Rattle.rules.specs.Take.{◌>>=◌, must, name_of, each_named}
 use Rattle.rules.specs.Records.{Image}
 use Rattle.rules.specs.Forms.{sha256, image, images}
@@ -35,13 +37,10 @@ use Rattle.rules.specs.Asked.{Found}
 use Rattle.rules.proofs.SearchLaws.{early_stop, images-rise}
 use Rattle.forms.specs.Each.{each_member}
 use Rattle.forms.proofs.EachLaws.{MembersWalk, members-first, members-none, members-over, members-full, members-broken, members-next}
-use Rattle.forms.proofs.ListedLaws.{keep_in}
-use Rattle.envelope.proofs.OpenLaws.{cut, held}
-use Rattle.targets_file.specs.View.{description, described, view_image, ReadsImage, ReadsNamed, image_as, found_of, listing, listing_in, Sought, view_search, listed, view_images}
+use Rattle.targets_file.specs.View.{description, described, ReadsImage, ReadsNamed, image_as, found_of, listing, listing_in, Sought, view_search, listed, view_listing}
 use Rattle.targets_file.specs.Pass.{going, comparing, with_image, seek, OneMore}
 use Rattle.targets_file.specs.declared.ImageAt.{ImageAt}
 use Rattle.targets_file.specs.declared.Search.{Search}
-use Rattle.targets_file.specs.declared.ImagesAt.{ImagesAt}
 
 -- ## An image, step by step
 
@@ -52,23 +51,24 @@ abbrev under : Bytes → Found → Image
 under t f = record { path = t; length = f.length; digest = f.digest }
 
 module _ (v : Json) where
-  pub no_length : None ≡ must (bytes "length") (number 0 max_length) v → None ≡ description v
+  pub no-length : None ≡ must (bytes "length") (number 0 max_length) v → None ≡ description v
   unfolding description bind
-  no_length e = rw (← e)
+  no-length e = rw (← e)
 
-  pub description-is : (n : ℕ) → Some n ≡ must (bytes "length") (number 0 max_length) v → (o : Option Bytes) → o ≡ must (bytes "hashes") sha256 v
-      → (o >>= λ d. Some (found n d)) ≡ description v
-  unfolding description bind
-  description-is n e o f = rw (← e, ← f)
+  module _ (n : ℕ) (e : Some n ≡ must (bytes "length") (number 0 max_length) v) where
+    pub no-digest : None ≡ must (bytes "hashes") sha256 v → None ≡ description v
+    unfolding description bind
+    no-digest f = rw (← e, ← f)
+
+    pub description-is : (d : Bytes) → Some d ≡ must (bytes "hashes") sha256 v → Some (found n d) ≡ description v
+    unfolding description bind
+    description-is d f = rw (← e, ← f)
 
 module _ (t : Bytes) (v : Json) where
-  pub path_empty : length t < 1 → None ≡ image t v
+  pub path-out : (length t < 1) ⊎ (max_path < length t) → None ≡ image t v
   unfolding image name_of keep bind
-  path_empty h = rw (lt-leb 1 (length t) h)
-
-  pub path-long : max_path < length t → None ≡ image t v
-  unfolding image name_of keep bind
-  path-long h = rw (lt-leb (length t) max_path h, and-false)
+  path-out (inl h) = rw (lt-leb 1 (length t) h)
+  path-out (inr h) = rw (lt-leb (length t) max_path h, and-false)
 
   -- a name of its form, and what is said under it
   named-image : 1 ≤ length t → length t ≤ max_path → image t v ≡ (description v >>= λ f. Some (under t f))
@@ -80,29 +80,31 @@ module _ (t : Bytes) (v : Json) where
       go (Some n) None = refl
       go (Some n) (Some d) = refl
 
-module _ (s : Bytes) (i p : ℕ) (r : ImageAt) where
-  pub reads-named : 1 ≤ length (raw (drop i s)) → length (raw (drop i s)) ≤ max_path → ReadsImage s p r → ReadsNamed s i p r
-  unfolding view_image image_as described
-  reads-named lo hi w = record {
-    means = λ v h.
-        keep_in r.ok (described s r) (under (raw (drop i s)))
-        ∙ ap (λ (o : Option Found). o >>= λ f. Some (under (raw (drop i s)) f)) (w.means v h)
-        ∙ sym (named-image (raw (drop i s)) v lo hi);
+module _ (s : Bytes) (i p : ℕ) where
+  pub reads-named : (r : Option (Spanned ImageAt)) → 1 ≤ length (raw (drop i s)) → length (raw (drop i s)) ≤ max_path → ReadsImage s p r → ReadsNamed s i p r
+  unfolding image_as described bind
+  reads-named r lo hi w = record {
+    reads = record {
+      means = λ v h.
+          as-named r
+          ∙ ap (λ (o : Option Found). o >>= λ f. Some (under (raw (drop i s)) f)) (w.reads.means v h)
+          ∙ sym (named-image (raw (drop i s)) v lo hi);
+      end = w.reads.end;
+    };
     digits = w.digits;
-    end = w.end;
   }
+    where
+      as-named : (r : Option (Spanned ImageAt)) → option_map (λ (x : Spanned ImageAt). image_as s (raw (drop i s)) x.value) r
+          ≡ (option_map (λ (x : Spanned ImageAt). described s x.value) r >>= λ f. Some (under (raw (drop i s)) f))
+      as-named None = refl
+      as-named (Some x) = refl
 
--- the form is broken
-module _ (s : Bytes) (p : ℕ) (r : ImageAt) (o : r.ok ≡ false) (e : r.end ≡ None) where
-  no-digits : r.ok ≡ true → is_hex digest_size (raw (drop r.digest s)) ≡ true
-  no-digits q = never (sym q ∙ o)
+  -- no image, where the form is broken
+  pub broken-name : ((v : Json) → None ≡ image (raw (drop i s)) v) → ReadsNamed s i p None
+  broken-name f = record { reads = record { means = λ v h. f v; end = tt }; digits = tt }
 
-  pub broken-image : ((v : Json) → Stands s p v → None ≡ description v) → ReadsImage s p r
-  broken-image f = record { means = λ v h. cut _ _ o ∙ f v h; digits = no-digits; end = known-none s p _ e }
-
-  pub broken-name : (i : ℕ) → ((v : Json) → Stands s p v → None ≡ image (raw (drop i s)) v) → ReadsNamed s i p r
-  unfolding view_image
-  broken-name i f = record { means = λ v h. cut _ _ o ∙ f v h; digits = no-digits; end = known-none s p _ e }
+pub broken-image : (s : Bytes) (p : ℕ) → Takes s p description None → ReadsImage s p None
+broken-image s p t = record { reads = record { means = t; end = tt }; digits = tt }
 
 -- ## The search
 
@@ -197,11 +199,11 @@ module _ (s path : Bytes) (search : Search) (n i : ℕ) (x : ImageAt) where
   still-over o = sym (with-over path (view_search search) (image_as s (raw (drop i s)) x) o)
 
   -- the n-th name is compared
-  pub compared-now : search.over ≡ false → n ≡ search.compared + 1 → (r order : Order) → r ≡ order_of (raw (drop i s)) path → r ≡ order
-      → record { over = not (is_smaller order); compared = n; image = keep (is_equal order) (described s x) } ≡ with_image path (view_search search) (image_as s (raw (drop i s)) x)
+  pub compared-now : search.over ≡ false → n ≡ search.compared + 1 → (order : Ordering) → order ≡ order_of (raw (drop i s)) path
+      → record { over = not (is_lt order); compared = n; image = keep (is_eq order) (described s x) } ≡ with_image path (view_search search) (image_as s (raw (drop i s)) x)
   unfolding view_search comparing image_as described
-  compared-now o e r order w q =
-      rw (order_less (raw (drop i s)) path r order w q, order_same (raw (drop i s)) path r order w q ∙ same-sym (raw (drop i s)) path, e)
+  compared-now o e order q =
+      rw (q, order_less (raw (drop i s)) path, order_same (raw (drop i s)) path ∙ same-sym (raw (drop i s)) path, e)
       (sym (with-next path (view_search search) (image_as s (raw (drop i s)) x) o))
 
 -- n images are read, the search among them says `search`, and the members from m on decide the whole
@@ -213,6 +215,12 @@ pub record Pass (s path : Bytes) (at : ℕ) (search : Search) (n : ℕ) (m : Mem
   pub all : search.over ≡ false → search.compared ≡ n
   pub walk : (v : Json) → Stands s at v → MembersWalk image 0 max_targets s m n before (each_member 0 max_targets image v)
 
+-- a walk that has come to no member and to no end
+no-object : (m : Member) → ((i j : ℕ) → m ≡ member.At i j → ⊥) → ((e : ℕ) → m ≡ member.End e → ⊥) → m ≡ member.NoObject
+no-object member.NoObject a e = refl
+no-object (member.End x) a e = absurd (e x refl)
+no-object (member.At i j) a e = absurd (a i j refl)
+
 module _ (s path : Bytes) (at : ℕ) (search : Search) where
   pub pass_first : view_search search ≡ going 0 → (m : Member) → FirstMember s at m → Pass s path at search 0 m
   unfolding seek view_search going
@@ -220,42 +228,37 @@ module _ (s path : Bytes) (at : ℕ) (search : Search) where
       record { few = omega arith; before = []; is = e; all = λ o. ap (λ (r : Sought). r.compared) e; walk = λ v h. members-first image 0 max_targets s m w v h }
 
   module _ (n : ℕ) (m : Member) (w : Pass s path at search n m) where
-    pub pass_over : (e : ℕ) → m ≡ member.End e → Takes s at (listing_in path images) (Some (listed (view_search search)))
-    unfolding listing_in bind
+    pub pass_over : (e : ℕ) → m ≡ member.End e → Takes s at (listing_in path images) (Some (view_listing search))
+    unfolding listing_in bind view_listing
     pass_over j q v h =
         let e : images v ≡ Some w.before = images-by v ∙ sym (members-over image 0 max_targets s m n w.before _ (w.walk v h) j q (omega arith) w.few) in
         rw e (ap (λ (r : Sought). Some (listed r)) w.is ∙ ap Some (seek-listing path v h.valid w.before e))
 
-    module _ (r : ImagesAt) where
-      broken : view_images r ≡ None → ((v : Json) → Stands s at v → None ≡ each_member 0 max_targets image v) → Takes s at (listing_in path images) (view_images r)
-      unfolding listing_in bind
-      broken z e v h = rw (images-by v, ← e v h) z
+    broken : Takes s at (each_member 0 max_targets image) None → Takes s at (listing_in path images) None
+    unfolding listing_in bind
+    broken t v h = rw (images-by v, ← t v h) refl
 
-      pub pass_none : view_images r ≡ None → m ≡ member.NoObject → Takes s at (listing_in path images) (view_images r)
-      pass_none z q = broken z (λ v h. members-none image 0 max_targets s m n w.before _ (w.walk v h) q)
+    pub pass_none : ((i j : ℕ) → m ≡ member.At i j → ⊥) → ((e : ℕ) → m ≡ member.End e → ⊥) → Takes s at (listing_in path images) None
+    pass_none a e = broken (λ v h. members-none image 0 max_targets s m n w.before _ (w.walk v h) (no-object m a e))
 
     -- the name is read at i, the value stands at j
     module _ (i j : ℕ) (q : m ≡ member.At i j) where
-      pub pass_full : (r : ImagesAt) → view_images r ≡ None → max_targets ≤ n → Takes s at (listing_in path images) (view_images r)
-      pass_full r z l = broken r z (λ v h. members-full image 0 max_targets s m n w.before _ (w.walk v h) i j q l)
+      pub pass_full : max_targets ≤ n → Takes s at (listing_in path images) None
+      pass_full l = broken (λ v h. members-full image 0 max_targets s m n w.before _ (w.walk v h) i j q l)
 
-      module _ (x : ImageAt) (t : ReadsNamed s i j x) where
-        pub pass_broken : (r : ImagesAt) → view_images r ≡ None → x.ok ≡ false → Takes s at (listing_in path images) (view_images r)
-        unfolding view_image
-        pass_broken r z o =
-            broken r z
-            (λ v h. members-broken image 0 max_targets s m n w.before _ (w.walk v h) i j q (λ u k. sym (cut _ _ o) ∙ t.means u k))
+      pub pass_broken : ReadsNamed s i j None → Takes s at (listing_in path images) None
+      pass_broken t = broken (λ v h. members-broken image 0 max_targets s m n w.before _ (w.walk v h) i j q t.reads.means)
 
-        pub pass_next : x.ok ≡ true → n < max_targets → (r : Search) → OneMore s path search (n + 1) i x r
-            → (m' : Member) → NextMember s j m' → Pass s path at r (n + 1) m'
-        unfolding view_image view_search
-        pass_next o l r e m' y =
-            let new = image_as s (raw (drop i s)) x in
-            let moved = e (λ k. ap (λ (c : ℕ). c + 1) (sym (w.all k))) (t.digits o) in
-            record {
-              few = omega arith;
-              before = w.before ++ (new ∷ []);
-              is = moved ∙ ap (λ (x : Sought). with_image path x new) w.is ∙ sym (seek-last path (going 0) w.before new);
-              all = λ k. ap (λ (x : Sought). x.compared) moved ∙ with_all path (view_search search) new n w.all (sym (ap (λ (x : Sought). x.over) moved) ∙ k);
-              walk = λ v h. members-next image 0 max_targets s m n w.before _ (w.walk v h) i j q new (λ u k. sym (held _ _ o) ∙ t.means u k) m' y;
-            }
+      pub pass_next : (x : Spanned ImageAt) → ReadsNamed s i j (Some x) → n < max_targets → (r : Search) → OneMore s path search (n + 1) i x.value r
+          → (m' : Member) → NextMember s j m' → Pass s path at r (n + 1) m'
+      unfolding view_search
+      pass_next x t l r e m' y =
+          let new = image_as s (raw (drop i s)) x.value in
+          let moved = e (λ k. ap (λ (c : ℕ). c + 1) (sym (w.all k))) t.digits in
+          record {
+            few = omega arith;
+            before = w.before ++ (new ∷ []);
+            is = moved ∙ ap (λ (x : Sought). with_image path x new) w.is ∙ sym (seek-last path (going 0) w.before new);
+            all = λ k. ap (λ (x : Sought). x.compared) moved ∙ with_all path (view_search search) new n w.all (sym (ap (λ (x : Sought). x.over) moved) ∙ k);
+            walk = λ v h. members-next image 0 max_targets s m n w.before _ (w.walk v h) i j q new t.reads.means m' y;
+          }

@@ -26,7 +26,7 @@ use Rattle.canonical_json.proofs.Rfc.{to_rfc}
 use Rattle.canonical_json.proofs.Complete.{complete-object}
 use Rattle.lookup.specs.Leaves.{number_in}
 use Rattle.lookup.proofs.NumberLaws.{number_of}
-use Rattle.lookup.proofs.StandsLaws.{known_as, takes_of, ends_of}
+use Rattle.lookup.proofs.StandsLaws.{takes_of, ends_of}
 use Rattle.rules.specs.Limits.{digest_size, max_length}
 use Rattle.rules.specs.Take.{must, hex, unhex}
 use Rattle.rules.specs.Forms.{sha256}
@@ -34,7 +34,6 @@ use Rattle.forms.specs.View.{digits_at}
 use Rattle.forms.proofs.TextLaws.{put-hex, hex-valid, digits-hex, digits-text, digits-raw, digits-is}
 use Rattle.targets_file.specs.View.{description, described, ReadsImage}
 use Rattle.targets_file.specs.Plain.{plain_image, opening, between, PlainLength}
-use Rattle.targets_file.specs.declared.ImageAt.{ImageAt}
 
 -- ## Its length
 
@@ -67,17 +66,14 @@ written s p e x = go (number false (drop p s)) refl x
           after = omega arith;
         }
 
-pub plain-length : (s : Bytes) (i p e : ℕ) (r : ImageAt) → Some e ≡ end_of (length s) (number false (drop p s)) → e < length s → get_or s e 0 ≡ code "}"
-    → r.digest ≡ i → r.end ≡ Some (e + 1) → Some r.length ≡ number_in 0 max_length (drop p s) → PlainLength s i p r
+pub plain-length : (s : Bytes) (p e n : ℕ) → Some e ≡ end_of (length s) (number false (drop p s)) → e < length s → get_or s e 0 ≡ code "}"
+    → Some n ≡ number_in 0 max_length (drop p s) → PlainLength s p n (e + 1)
 unfolding Valid
-plain-length s i p e r x h b d n k =
+plain-length s p e n x h b k =
     let w = written s p e x in
     let a = w.after in
     let t : drop p s ≡ w.digits ++ (code "}" ∷ drop (e + 1) s) = w.text ∙ ap (λ (y : Bytes). w.digits ++ y) (at-cons s e h ∙ ap (λ (c : ℕ). c ∷ drop (e + 1) s) b) in
     record {
-      digest = d;
-      past = e + 1;
-      end = n;
       within = (omega arith, omega arith);
       written = w.digits;
       valid = w.valid;
@@ -102,18 +98,18 @@ plain-says : (hash written : Bytes) → is_hex digest_size hash ≡ true → (n 
 unfolding plain_image description must sha256 hex unhex field members lookup text keep bind same
 plain-says hash written h n e = rw (← e, h) refl
 
-module _ (s : Bytes) (p i q : ℕ) (r : ImageAt)
+module _ (s : Bytes) (p i q n past : ℕ)
     (before : drop p s ≡ opening ++ drop i s)
     (digits : digits_at digest_size s i ≡ true)
     (after : drop (i + digest_size * 2) s ≡ between ++ drop q s)
-    (w : PlainLength s i q r) where
+    (w : PlainLength s q n past) where
   hash : Bytes
   hash = take (digest_size * 2) (drop i s)
 
-  plain-read : read max_depth (drop p s) ≡ got (plain_image hash w.written) (drop w.past s)
+  plain-read : read max_depth (drop p s) ≡ got (plain_image hash w.written) (drop past s)
   unfolding plain_image hash
   plain-read =
-      let rest = drop w.past s in
+      let rest = drop past s in
       let h = digits-hex digest_size s i digits in
       let t : drop p s ≡ put (plain_image hash w.written) rest =
       before
@@ -121,18 +117,18 @@ module _ (s : Bytes) (p i q : ℕ) (r : ImageAt)
       ∙ sym (plain-text hash w.written rest h w.valid) in
       ap (read max_depth) t ∙ complete-object _ max_depth rest (plain-valid hash w.written rest h w.valid)
 
-  pub plain-image : r.ok ≡ true → p < q → ReadsImage s p r
-  unfolding described keep hash
-  plain-image ok ahead =
+  pub plain-image : p < q → ReadsImage s p (Some (record { value = record { length = n; digest = i }; end = Some past }))
+  unfolding described hash
+  plain-image ahead =
       let d = digits-raw digest_size s i digits in
       let is = digits-is digest_size s i digits in
       record {
-        means =
-            rw ok
-            (takes_of s p _ _ plain-read description _
-            (ap (λ (n : ℕ). Some (record { length = r.length; digest = undo (raw (drop n s)) })) w.digest
-            ∙ ap (λ (x : Bytes). Some (record { length = r.length; digest = undo x })) d
-            ∙ plain-says hash w.written (ap (is_hex digest_size) (sym d) ∙ is) r.length w.is));
-        digits = λ _. ap (λ (n : ℕ). is_hex digest_size (raw (drop n s))) w.digest ∙ is;
-        end = known_as s p _ _ w.end (ends_of s p _ _ plain-read w.past refl (let a = w.within.0 in omega arith) w.within.1);
+        reads = record {
+          means =
+              takes_of s p _ _ plain-read description _
+              (ap (λ (x : Bytes). Some (record { length = n; digest = undo x })) d
+              ∙ plain-says hash w.written (ap (is_hex digest_size) (sym d) ∙ is) n w.is);
+          end = ends_of s p _ _ plain-read past refl (let a = w.within.0 in omega arith) w.within.1;
+        };
+        digits = is;
       }

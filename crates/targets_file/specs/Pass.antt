@@ -2,12 +2,10 @@
 use Rattle.std.specs.Prelude.{◌≡◌, true, false, cond, not, List, [], ◌∷◌, ℕ, ◌+◌, drop}
 use Rattle.std.specs.declared.option.Option.TheVariants.{None}
 use Rattle.base.specs.Bytes.{Bytes, same, less}
-use Rattle.base.specs.Hex.{is_hex}
 use Rattle.canonical_json.specs.Read.{raw}
 use Rattle.canonical_json.specs.Fields.{keep}
-use Rattle.rules.specs.Limits.{digest_size}
 use Rattle.rules.specs.Records.{Image}
-use Rattle.targets_file.specs.View.{image_as, Sought, view_search}
+use Rattle.targets_file.specs.View.{image_as, HexImage, Sought, view_search}
 use Rattle.targets_file.specs.declared.ImageAt.{ImageAt}
 use Rattle.targets_file.specs.declared.Search.{Search}
 
@@ -36,5 +34,5 @@ seek path r (i ∷ is) = seek path (with_image path r i) is
 -- r says the same of the images before and one more, the n-th, whose name is read at i and whose digits are a digest's
 abbrev pub OneMore : Bytes → Bytes → Search → ℕ → ℕ → ImageAt → Search → Type 0
 OneMore s path before n i image r =
-    (before.over ≡ false → n ≡ before.compared + 1) → is_hex digest_size (raw (drop image.digest s)) ≡ true
+    (before.over ≡ false → n ≡ before.compared + 1) → HexImage s image
     → view_search r ≡ with_image path (view_search before) (image_as s (raw (drop i s)) image)

@@ -5,9 +5,7 @@ use Prim.Native.Char.{code}
 use Rattle.base.specs.Bytes.{Bytes, bytes}
 use Rattle.canonical_json.specs.Json.{Json, num, str, obj, mnil, mcons, valid_num}
 use Rattle.canonical_json.specs.Fields.{number}
-use Rattle.std.specs.declared.option.Option.TheVariants.{None, Some}
 use Rattle.rules.specs.Limits.{max_length}
-use Rattle.targets_file.specs.declared.ImageAt.{ImageAt}
 
 -- its value: the digits of its digest, and those of its length
 unfoldable pub plain_image : Bytes → Bytes → Json
@@ -20,13 +18,10 @@ opening = bytes "{\"hashes\":{\"sha256\":\""
 abbrev pub between : Bytes
 between = bytes "\"},\"length\":"
 
--- its length is written at p, and a closing brace after it; the digits of its digest stand at i
-pub record PlainLength (s : Bytes) (i p : ℕ) (r : ImageAt) : Type 0 where
-  pub digest : r.digest ≡ i
-  pub past : ℕ
-  pub end : r.end ≡ Some past
+-- its length n is written at p, and a closing brace after it, just before `past`
+pub record PlainLength (s : Bytes) (p n past : ℕ) : Type 0 where
   pub within : (p < past) × (past ≤ length s)
   pub written : Bytes
   pub valid : valid_num false written ≡ true
   pub text : drop p s ≡ written ++ (code "}" ∷ drop past s)
-  pub is : Some r.length ≡ number 0 max_length (num false written)
+  pub is : Some n ≡ number 0 max_length (num false written)

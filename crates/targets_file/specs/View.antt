@@ -1,27 +1,28 @@
 -- What the answers stand for. Of a targets file its version, its date and the one image of a path are looked at: the others are only
 -- read for their form.
 use Rattle.std.specs.Prelude.{◌≡◌, Bool, true, List, ℕ, ℤ, drop}
+use Rattle.std.specs.Option.{option_map, IfSome}
 use Rattle.std.specs.declared.option.Option.{Option}
 use Rattle.std.specs.declared.option.Option.TheVariants.{Some}
 use Rattle.base.specs.Bytes.{Bytes, bytes}
 use Rattle.base.specs.Hex.{is_hex, undo}
 use Rattle.canonical_json.specs.Json.{Json}
 use Rattle.canonical_json.specs.Read.{raw}
-use Rattle.canonical_json.specs.Fields.{keep, number}
-use Rattle.lookup.specs.Place.{Takes, KnownEnd}
+use Rattle.canonical_json.specs.Fields.{number}
+use Rattle.lookup.specs.Place.{Reads}
+use Rattle.lookup.specs.declared.Spanned.{Spanned}
 use Rattle.rules.specs.Limits.{digest_size, max_length}
 use Rattle.rules.specs.Take.{◌>>=◌, must}
-use Rattle.rules.specs.Records.{Image, File, Read}
+use Rattle.rules.specs.Records.{Image, File}
 use Rattle.rules.specs.Forms.{sha256, image}
 use Rattle.rules.specs.Conditions.{image_of}
 use Rattle.rules.specs.Search.{paths, compared}
 use Rattle.rules.specs.Asked.{Found}
-use Rattle.records.specs.View.{view_id, view_entries}
-use Rattle.envelope.specs.Open.{view_read}
+use Rattle.records.specs.View.{view_id}
 use Rattle.targets_file.specs.declared.ImageAt.{ImageAt}
+use Rattle.targets_file.specs.declared.FoundImage.{FoundImage}
 use Rattle.targets_file.specs.declared.Search.{Search}
-use Rattle.targets_file.specs.declared.ImagesAt.{ImagesAt}
-use Rattle.targets_file.specs.declared.TargetsRead.{TargetsRead}
+use Rattle.targets_file.specs.declared.TargetsSeen.{TargetsSeen}
 
 -- ## An image
 
@@ -39,20 +40,19 @@ described s r = record { length = r.length; digest = undo (raw (drop r.digest s)
 unfoldable pub image_as : Bytes → Bytes → ImageAt → Image
 image_as s path r = record { path = path; length = r.length; digest = undo (raw (drop r.digest s)) }
 
-unfoldable pub view_image : Bytes → Bytes → ImageAt → Option Image
-view_image s path r = keep r.ok (image_as s path r)
+-- the digits of a digest stand at its place
+abbrev pub HexImage : Bytes → ImageAt → Type 0
+HexImage s r = is_hex digest_size (raw (drop r.digest s)) ≡ true
 
--- What a reader promises of the image at p: what it says, where its digits stand and where it ends.
-pub record ReadsImage (s : Bytes) (p : ℕ) (r : ImageAt) : Type 0 where
-  pub means : Takes s p description (keep r.ok (described s r))
-  pub digits : r.ok ≡ true → is_hex digest_size (raw (drop r.digest s)) ≡ true
-  pub end : KnownEnd s p r.end
+-- What a reader promises of the image at p: what it says and where it ends, and that digits stand at its place.
+pub record ReadsImage (s : Bytes) (p : ℕ) (r : Option (Spanned ImageAt)) : Type 0 where
+  pub reads : Reads (described s) s p description r
+  pub digits : IfSome r (λ (x : Spanned ImageAt). HexImage s x.value)
 
 -- the same of an image whose name is read at i
-pub record ReadsNamed (s : Bytes) (i p : ℕ) (r : ImageAt) : Type 0 where
-  pub means : Takes s p (image (raw (drop i s))) (view_image s (raw (drop i s)) r)
-  pub digits : r.ok ≡ true → is_hex digest_size (raw (drop r.digest s)) ≡ true
-  pub end : KnownEnd s p r.end
+pub record ReadsNamed (s : Bytes) (i p : ℕ) (r : Option (Spanned ImageAt)) : Type 0 where
+  pub reads : Reads (image_as s (raw (drop i s))) s p (image (raw (drop i s))) r
+  pub digits : IfSome r (λ (x : Spanned ImageAt). HexImage s x.value)
 
 -- ## What a list of images says of a path
 
@@ -77,16 +77,22 @@ pub record Sought : Type 0 where
   pub compared : ℕ
   pub image : Option Found
 
+unfoldable pub view_found : FoundImage → Found
+view_found f = record { length = f.length; digest = view_id f.digest }
+
 unfoldable pub view_search : Search → Sought
-view_search r =
-    record { over = r.over; compared = r.compared; image = keep r.listed (record { length = r.length; digest = view_id r.digest }) }
+view_search r = record { over = r.over; compared = r.compared; image = option_map view_found r.found }
+
+-- o is the image, where the digits of a digest stand at its place
+abbrev pub FindsImage : Bytes → ImageAt → Option FoundImage → Type 0
+FindsImage s r o = HexImage s r → option_map view_found o ≡ Some (described s r)
 
 -- and what it says in the end
 unfoldable pub listed : Sought → Listing
 listed r = record { image = r.image; compared = r.compared }
 
-unfoldable pub view_images : ImagesAt → Option Listing
-view_images r = keep r.ok (listed (view_search r.search))
+unfoldable pub view_listing : Search → Listing
+view_listing r = listed (view_search r)
 
 -- ## The file
 
@@ -98,8 +104,5 @@ pub record Seen : Type 0 where
 unfoldable pub seen : Bytes → File (List Image) → Seen
 seen path f = record { version = f.version; expires = f.expires; listing = listing path f.body }
 
-unfoldable pub view_targets_read : TargetsRead → Option (Read Seen)
-view_targets_read r =
-    view_read r.answer
-    (record { version = r.version; expires = r.expires.seconds; listing = listed (view_search r.search) })
-    (view_entries r.entries)
+unfoldable pub view_seen : TargetsSeen → Seen
+view_seen r = record { version = r.version; expires = r.expires.seconds; listing = view_listing r.search }

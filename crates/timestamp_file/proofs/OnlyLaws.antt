@@ -30,26 +30,28 @@ unfolding single
 not-over (members-end {e = e} t) q n v k = absurd (q e refl)
 not-over (members-at t u g) q n v k = refl
 
+-- what is read in it
+sole-only : {A : Type 0} (k : Bytes) (f : Json → Option A) (v : Json) → sole k f v ≡ (only k v >>= f)
+unfolding sole only bind
+sole-only k f v = go (members v)
+  where
+    go : (m : Option Members) → (m >>= λ ms. single k ms >>= f) ≡ ((m >>= single k) >>= f)
+    go None = refl
+    go (Some ms) = refl
+
 module _ (s : Bytes) (p : ℕ) (k : Bytes) {m : Member} (w : FirstMember s p m) where
-  pub only_none : m ≡ NoObject → Finds s p (only k) None
-  unfolding only bind
-  only_none q v h = go (members v) (w.means v h)
+  -- an object without members, or none
+  pub only-none : ((i j : ℕ) → m ≡ At i j → ⊥) → Finds s p (only k) None
+  unfolding only bind single
+  only-none q v h = go (members v) (w.means v h)
     where
-      left : {rest : Bytes} {x : Member} {ms : Members} → MembersLeft s rest x ms → x ≡ NoObject → single k ms ≡ None
-      left (members-end t) q = let z : ◌≡◌ {A = ℕ} 0 1 = cc in absurd (omega arith)
-      left (members-at t u g) q = let z : ◌≡◌ {A = ℕ} 0 1 = cc in absurd (omega arith)
+      left : {rest : Bytes} {x : Member} {ms : Members} → MembersLeft s rest x ms → ((i j : ℕ) → x ≡ At i j → ⊥) → single k ms ≡ None
+      left (members-end t) q = refl
+      left (members-at {i = i} {j = j} t u g) q = absurd (q i j refl)
 
       go : (o : Option Members) → MembersOf s h.rest m o → (o >>= single k) ≡ None
       go None e = refl
       go (Some ms) l = left l q
-
-  pub only_end : (e : ℕ) → m ≡ End e → Finds s p (only k) None
-  unfolding only bind single
-  only_end e q v h = go (members v) (w.means v h)
-    where
-      go : (o : Option Members) → MembersOf s h.rest m o → (o >>= single k) ≡ None
-      go None e = refl
-      go (Some ms) l = rw (over l q) refl
 
   module _ (i j : ℕ) (q : m ≡ At i j) where
     -- what the members say, from the first on
@@ -76,6 +78,19 @@ module _ (s : Bytes) (p : ℕ) (k : Bytes) {m : Member} (w : FirstMember s p m) 
         go n v mnil e = rw e refl
         go n v (mcons m x ms) e = refl
 
+    -- of whose value the form says nothing
+    pub sole-broken : {A : Type 0} (f : Json → Option A) → Takes s j f None → Takes s p (sole k f) None
+    unfolding single keep bind
+    sole-broken {A} f t v h = sym (sole-only k f v ∙ by_first (λ o. (o >>= f) ≡ None) (λ rest n v ms l. go n v ms (sym (t v (member-stands l)))) v h)
+      where
+        kept : (b : Bool) (v : Json) → f v ≡ None → (keep b v >>= f) ≡ None
+        kept true v e = e
+        kept false v e = refl
+
+        go : (n : Bytes) (v : Json) (ms : Members) → f v ≡ None → (single k (mcons n v ms) >>= f) ≡ None
+        go n v mnil e = kept (same n k) v e
+        go n v (mcons m x ms) e = refl
+
     module _ {x : Member} (d : NextMember s j x) where
       pub only-more : ((e : ℕ) → x ≡ End e → ⊥) → Finds s p (only k) None
       only-more e = by_first (λ o. o ≡ None) (λ rest n v ms l. not-over (d.means i n v ms l) e n v k)
@@ -86,18 +101,9 @@ module _ (s : Bytes) (p : ℕ) (k : Bytes) {m : Member} (w : FirstMember s p m) 
           by_first (λ o. PlaceOf s (Some j) o)
           (λ rest n v ms l. (v, rw (over (d.means i n v ms l) q, named n v ms l true t) refl, member-stands l))
 
--- what is read in it
-sole-only : {A : Type 0} (k : Bytes) (f : Json → Option A) (v : Json) → sole k f v ≡ (only k v >>= f)
-unfolding sole only bind
-sole-only k f v = go (members v)
-  where
-    go : (m : Option Members) → (m >>= λ ms. single k ms >>= f) ≡ ((m >>= single k) >>= f)
-    go None = refl
-    go (Some ms) = refl
+module _ {A : Type 0} (s : Bytes) (p : ℕ) (k : Bytes) (f : Json → Option A) where
+  pub sole-none : Finds s p (only k) None → Takes s p (sole k f) None
+  sole-none w v h = sym (sole-only k f v ∙ stop f (w v h))
 
-module _ {A : Type 0} (s : Bytes) (p : ℕ) (k : Bytes) (r : Option ℕ) (w : Finds s p (only k) r) (f : Json → Option A) (o : Option A) where
-  pub sole_none : r ≡ None → o ≡ None → Takes s p (sole k f) o
-  sole_none q e v h = let n : only k v ≡ None = rw q at (w v h) in e ∙ sym (sole-only k f v ∙ stop f n)
-
-  pub sole-at : (x : ℕ) → r ≡ Some x → Takes s x f o → Takes s p (sole k f) o
-  sole-at x q t v h = let z : PlaceOf s (Some x) (only k v) = rw q at (w v h) in t z.0 z.2 ∙ sym (sole-only k f v ∙ on f z.1)
+  pub sole-at : (x : ℕ) → Finds s p (only k) (Some x) → (o : Option A) → Takes s x f o → Takes s p (sole k f) o
+  sole-at x w o t v h = let z = w v h in t z.0 z.2 ∙ sym (sole-only k f v ∙ on f z.1)

@@ -3,126 +3,63 @@
 
 ghost use Rattle.std.specs.Prelude.{◌≡◌};
 ghost use Rattle.base.specs.Bytes.{bytes};
-ghost use Rattle.lookup.specs.Place.{Takes, KnownEnd, FoundEnd};
+ghost use Rattle.lookup.specs.Place.{Reads};
 ghost use Rattle.rules.specs.Take.{sole};
 ghost use Rattle.rules.specs.Forms.{listed};
 ghost use Rattle.rules.specs.State.{timestamp_in};
-ghost use Rattle.forms.specs.Member.{TakesMust};
-ghost use Rattle.forms.specs.View.{view_listed_at};
-ghost use Rattle.timestamp_file.specs.View.{view_timestamp_read};
+ghost use Rattle.records.specs.View.{view_listed, view_timestamp};
+ghost use Rattle.forms.specs.Member.{ReadsMust};
+ghost use Rattle.envelope.specs.Open.{view_read};
 
-use date::Time;
-use forms::ListedAt;
-use lookup::{Found, Member};
-use records::{Entries, Timestamp};
+use envelope::{Fault, Signed};
+use lookup::{Member, Spanned};
+use records::{Listed, Timestamp};
 
 // What is said of the one name, and where the object at `at` ends.
-fn sole_listed(s: &[u8], at: usize) -> ListedAt
-    ensures { Takes s.now at (sole (bytes "snapshot.json") listed) (view_listed_at result) × KnownEnd s.now at result.end }
+fn sole_listed(s: &[u8], at: usize) -> Option<Spanned<Listed>>
+    ensures { Reads view_listed s.now at (sole (bytes "snapshot.json") listed) result }
 {
-    match lookup::first_member(s, at) {
-        Member::NoObject => {
-            return forms::no_listed();
-        }
-        Member::End(_) => {
-            return forms::no_listed();
-        }
-        Member::At { name: n, value: v } => {
-            if !lookup::text_is(s, n, b"snapshot.json") {
-                return forms::no_listed();
-            }
-            let said = forms::listed_at(s, v);
-            let said_end = said.end;
-            match lookup::next_member_by(s, v, said_end) {
-                Member::NoObject => {
-                    return forms::no_listed();
-                }
-                Member::End(e) => {
-                    let listed = said.listed;
-                    return ListedAt {
-                        ok: said.ok,
-                        listed,
-                        end: Some(e),
-                    };
-                }
-                Member::At { name: _, value: _ } => {
-                    return forms::no_listed();
-                }
-            }
-        }
+    let Member::At { name, value } = lookup::first_member(s, at) else {
+        return None;
+    };
+    if !lookup::text_is(s, name, b"snapshot.json") {
+        return None;
     }
+    let said = forms::listed_at(s, value)?;
+    let Member::End(e) = lookup::next_member_by(s, value, said.end) else {
+        return None;
+    };
+    Some(Spanned {
+        value: said.value,
+        end: Some(e),
+    })
 }
 
 // "meta" with the one name `snapshot.json`.
-fn meta_listed(s: &[u8], found: Option<usize>) -> ListedAt
-    ensures { TakesMust s.now found (sole (bytes "snapshot.json") listed) (view_listed_at result) × FoundEnd s.now found result.end }
+fn meta_listed(s: &[u8], found: Option<usize>) -> Option<Spanned<Listed>>
+    ensures { ReadsMust view_listed s.now found (sole (bytes "snapshot.json") listed) result }
 {
-    match found {
-        None => {
-            return forms::no_listed();
-        }
-        Some(x) => {
-            return sole_listed(s, x);
-        }
-    }
+    sole_listed(s, found?)
 }
 
 // What a timestamp file says, with the keyids of its entries; or the refusal.
-#[derive(Clone, Copy)]
-pub struct TimestampRead {
-    pub answer: u8,
-    pub timestamp: Timestamp,
-    pub entries: Entries,
-}
-
-fn refused(answer: u8) -> TimestampRead
-    ensures { result.answer ≡ answer }
+pub fn read_timestamp(file: &[u8]) -> Result<Signed<Timestamp>, Fault>
+    ensures { view_read view_timestamp result ≡ timestamp_in file.now }
 {
-    let blank = forms::no_listed();
-    let snapshot = blank.listed;
-    let entries = envelope::no_ids();
-    TimestampRead {
-        answer,
-        timestamp: Timestamp {
-            version: 0,
-            expires: Time { seconds: 0 },
-            snapshot,
-        },
-        entries,
-    }
-}
-
-pub fn read_timestamp(file: &[u8]) -> TimestampRead
-    ensures { view_timestamp_read result ≡ Some (timestamp_in file.now) }
-{
-    let opened = envelope::open_envelope(file);
-    if opened.answer != 0 {
-        return refused(opened.answer);
-    }
-    let start = opened.start;
-    let found = lookup::find_member(file, start, b"meta");
-    let body = meta_listed(file, found);
-    if !body.ok {
-        return refused(envelope::BAD_FORM);
-    }
-    let end = body.end;
-    let header = envelope::header_at(file, start, b"timestamp", lookup::extent_of(found, end));
-    if !header.ok {
-        return refused(envelope::BAD_FORM);
-    }
+    let opened = envelope::open_envelope(file)?;
+    let found = lookup::find_member(file, opened.start, b"meta");
+    let meta = meta_listed(file, found).ok_or(Fault::BadForm)?;
+    let body = lookup::extent_of(found, meta.end);
+    let header = envelope::header_at(file, opened.start, b"timestamp", body).ok_or(Fault::BadForm)?;
     if !header.known {
-        return refused(envelope::OTHER_SPEC);
+        return Err(Fault::OtherSpec);
     }
-    let expires = header.expires;
-    let snapshot = body.listed;
-    let entries = opened.entries;
-    TimestampRead {
-        answer: 0,
-        timestamp: Timestamp {
+    Ok(Signed {
+        signed: Timestamp {
             version: header.version,
-            expires,
-            snapshot,
+            expires: header.expires,
+            snapshot: meta.value,
         },
-        entries,
-    }
+        entries: opened.entries,
+    })
 }

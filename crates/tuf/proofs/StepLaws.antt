@@ -1,9 +1,10 @@
--- The ways out of a step: a file that cannot be read, a row of the table that holds, and the state with the file that becomes trusted.
+-- The ways out of what decides a call: a file that cannot be read, a row of the table that holds, and the state with the file that becomes trusted.
 use mathlib.Core.Path.{◌≡◌, refl, sym, ap, ◌∙◌}
 use Rattle.std.specs.declared.option.Option.TheVariants.{Some}
 use mathlib.Core.List.{List}
 use mathlib.Core.Bool.{Bool, true, false}
 use Prim.Native.Nat.{ℕ}
+use native.Mathlib.Omega.{arith}
 use borrow.Author.Tests.{ne_eqb, eqb-false, not-true}
 use Rattle.base.specs.Bytes.{Bytes}
 use Rattle.base.proofs.TestLaws.{never}
@@ -11,63 +12,86 @@ use Rattle.rules.specs.Records.{Read, says}
 use Rattle.rules.specs.State as rules
 use Rattle.rules.specs.State.{Install, RootOffer, Call, blank, root_in}
 use Rattle.rules.specs.Table.{Refusal, first, absent}
-use Rattle.rules.specs.Steps.{install_table, root_table, judged, install_answer, answer, refuses, with_root, Item, a_root, after_root, trusting, what_says, offered, started, next, root_alone, begun, installed, Began}
+use lib.IntN.{ℤ}
+use Rattle.rules.specs.Steps.{cycle_table, install_table, root_table, judged, install_answer, answer, refuses, with_root, Item, a_root, after_root, trusting, what_says, offered, started, next, root_alone, begun, installed, Began}
 use Rattle.rules.proofs.NextLaws.{next-refused, next-trusting, says_what}
 use Rattle.rules.proofs.TableLaws.{judged-is, no_line}
-use Rattle.answers.specs.Number.{number_of}
-use Rattle.answers.proofs.MostLaws.{install-most, answer-most, named}
-use Rattle.envelope.specs.Open.{view_read}
+use Rattle.std.specs.declared.result.Result.{Result}
+use Rattle.std.specs.declared.result.Result.TheVariants.{Ok, Err}
+use Rattle.answers.specs.Number.{number_of, refusal_number}
+use Rattle.answers.proofs.MostLaws.{positive}
+use Rattle.std.specs.Result.{IsErrAnd}
+use Rattle.answers.specs.declared.Refusal as answers
 use Rattle.canonical_json.specs.Fields.{keep}
 use Rattle.records.specs.View.{view_root}
-use Rattle.envelope.proofs.ReadLaws.{read-says, read-judged}
 use Rattle.state.specs.View as state
 use Rattle.state.specs.declared.State as held
 use Rattle.tuf.specs.View.{view}
-use Rattle.tuf.specs.Promises.{Steps, Refuses, Accepts}
+use Rattle.tuf.specs.Promises.{Steps, Decides, DecidesInstall, Hands}
 use Rattle.tuf.specs.declared.State.{State}
 use Rattle.tuf.specs.declared.Step.{Step}
 
--- ## Any step
+-- ## What decides a call
 
+not-zero : (e : answers.Refusal) → ¬ (refusal_number e ≡ 0)
+not-zero e z = omega (arith, positive e)
+
+-- what decides a step, and what is handed back of it
 module _ (self : State) (c : Call) (r : Step) where
-  pub step-refused : (n : ℕ) → answer (view self) c ≡ n → ¬ (n ≡ 0) → Refuses self n r → Steps self c (number_of r.answer) r.state
-  step-refused n e x w =
+  pub step-of : (d : Result held.State answers.Refusal) → Decides self c d → Hands self d r → Steps self c (number_of r.answer) r.state
+  unfolding view refuses
+  step-of (Ok t) a w =
+      record {
+        stepped = record { answered = w.0 ∙ sym a.0; became = ap state.view w.1 ∙ a.1 };
+        unchanged = λ q. absurd (eqb-false (number_of r.answer) 0 (not-true _ q) w.0);
+      }
+  step-of (Err e) a w =
       record {
         stepped = record {
-          answered = named w.answer (sym e) (answer-most (view self) c);
-          became = ap view w.state ∙ sym (next-refused (view self) c (λ z. x (sym e ∙ z)));
+          answered = w.0 ∙ sym a;
+          became = ap view w.1 ∙ sym (next-refused (view self) c (λ z. not-zero e (sym a ∙ z)));
         };
-        unchanged = λ _. w.state;
+        unchanged = λ _. w.1;
       }
 
-  pub step-accepted : (t : held.State) → answer (view self) c ≡ 0 → state.view t ≡ next (view self) c → Accepts t r → Steps self c (number_of r.answer) r.state
-  unfolding view refuses
-  step-accepted t e m w =
-      record {
-        stepped = record { answered = w.answer ∙ sym e; became = ap state.view w.state ∙ m };
-        unchanged = λ q. absurd (eqb-false (number_of r.answer) 0 (not-true _ q) w.answer);
-      }
+-- the same of an install, from the blank state on
+pub began-of : (o : Install) (b : State) → view b ≡ blank → (r : Step) (d : Result held.State answers.Refusal) → DecidesInstall o d → Hands b d r
+    → Began o (number_of r.answer) (view r.state)
+unfolding view installed
+began-of o b e r (Ok t) a w = record { answered = w.0 ∙ sym a.0; became = ap state.view w.1 ∙ a.1 }
+began-of o b e r (Err f) a w =
+    record { answered = w.0 ∙ sym a; became = ap view w.1 ∙ e ∙ rw (ne_eqb (install_answer o) 0 (λ z. not-zero f (sym a ∙ z))) refl }
+
+-- the refusal of a call, told on as d
+pub cycle-refused : (self : State) (start : ℤ) (e : answers.Refusal) → refusal_number e ≡ first (cycle_table (view self) start) → (d : Result held.State answers.Refusal)
+    → IsErrAnd d (λ r. r ≡ e) → Decides self (rules.new_cycle start) d
+unfolding answer
+cycle-refused self start e j (Ok t) x = absurd x
+cycle-refused self start e j (Err r) x = sym j ∙ ap refusal_number (sym x)
 
 -- ## A step that reads a file: `answer` and `offered` of its call are by the reading rd
 
-module _ {A : Type 0} (self : State) (c : Call) (r : Step) (rd : Read A) (table : A → List Bytes → List Refusal) (item : A → Item)
+module _ {A : Type 0} (self : State) (c : Call) (rd : Read A) (table : A → List Bytes → List Refusal) (item : A → Item)
     (is : answer (view self) c ≡ judged rd table) (o : offered c ≡ what_says item rd) (s : started (view self) c ≡ view self) where
-  pub unread : (n : ℕ) → judged rd table ≡ n → ¬ (n ≡ 0) → Refuses self n r → Steps self c (number_of r.answer) r.state
-  unread n e x q = step-refused self c r n (is ∙ e) x q
+  -- a refusal, told on as d
+  pub unread : (n : ℕ) → judged rd table ≡ n → (d : Result held.State answers.Refusal) → IsErrAnd d (λ e. refusal_number e ≡ n) → Decides self c d
+  unread n x (Ok t) y = absurd y
+  unread n x (Err e) y = is ∙ x ∙ sym y
 
-  module _ (a : A) (es : List Bytes) (y : rd ≡ says a es) (k : ℕ) (j : k ≡ first (table a es)) where
-    judged_as : answer (view self) c ≡ k
+  module _ (a : A) (es : List Bytes) (y : rd ≡ says a es) (n : ℕ) (j : n ≡ first (table a es)) where
+    judged_as : answer (view self) c ≡ n
     judged_as = is ∙ judged-is table y ∙ sym j
 
-    pub held_back : ¬ (k ≡ 0) → Refuses self k r → Steps self c (number_of r.answer) r.state
-    held_back x q = step-refused self c r k judged_as x q
+    pub held_back : (e : answers.Refusal) → refusal_number e ≡ n → (d : Result held.State answers.Refusal) → IsErrAnd d (λ r. r ≡ e) → Decides self c d
+    held_back e q (Ok t) x = absurd x
+    held_back e q (Err r) x = judged_as ∙ sym q ∙ ap refusal_number (sym x)
 
-    pub let_in : k ≡ 0 → (t : held.State) → (first (table a es) ≡ 0 → state.view t ≡ trusting (view self) (item a)) → Accepts t r → Steps self c (number_of r.answer) r.state
-    let_in z t m q =
+    pub let_in : n ≡ 0 → (t : held.State) → (first (table a es) ≡ 0 → state.view t ≡ trusting (view self) (item a)) → Decides self c (Ok t)
+    let_in z t m =
         let e = judged_as ∙ z in
         let f = o ∙ says_what item y in
         let g = ap (λ (x : rules.State). trusting x (item a)) s in
-        step-accepted self c r t e (m (sym j ∙ z) ∙ sym (next-trusting (view self) c (item a) f e ∙ g)) q
+        (e, m (sym j ∙ z) ∙ sym (next-trusting (view self) c (item a) f e ∙ g))
 
 -- ## A root takes the place of the one that is held
 
@@ -84,34 +108,22 @@ root-after t o new es e =
 
 -- ## Install
 
-module _ (o : Install) (r : Step) (n : ℕ) (a : rules.Root) (es : List Bytes) (w : view_read n a es ≡ Some (root_in o.file)) where
-  began-refused : (b : State) → view b ≡ blank → (k : ℕ) → install_answer o ≡ k → ¬ (k ≡ 0) → Refuses b k r
-      → Began o (number_of r.answer) (view r.state)
-  unfolding installed
-  began-refused b e k i x q =
-      record {
-        answered = named q.answer (sym i) (install-most o);
-        became = ap view q.state ∙ e ∙ rw (i, ne_eqb k 0 x) refl;
-      }
+module _ (o : Install) where
+  pub not-begun : (n : ℕ) → judged (root_in o.file) (install_table o) ≡ n → (d : Result held.State answers.Refusal) → IsErrAnd d (λ e. refusal_number e ≡ n)
+      → DecidesInstall o d
+  unfolding install_answer
+  not-begun n x (Ok t) y = absurd y
+  not-begun n x (Err e) y = x ∙ sym y
 
-  module _ (b : State) (e : view b ≡ blank) where
-    pub not-begun : ¬ (n ≡ 0) → Refuses b n r → Began o (number_of r.answer) (view r.state)
+  module _ (a : rules.Root) (es : List Bytes) (y : root_in o.file ≡ says a es) (n : ℕ) (j : n ≡ first (install_table o a es)) where
+    installed_as : install_answer o ≡ n
     unfolding install_answer
-    not-begun x q = began-refused b e n (read-judged n a es (root_in o.file) w x (install_table o)) x q
+    installed_as = judged-is (install_table o) y ∙ sym j
 
-  module _ (z : n ≡ 0) (k : ℕ) (j : k ≡ first (install_table o a es)) where
-    installed_as : install_answer o ≡ k
-    unfolding install_answer
-    installed_as = judged-is (install_table o) (read-says n a es (root_in o.file) w z) ∙ sym j
+    pub begun-refused : (e : answers.Refusal) → refusal_number e ≡ n → (d : Result held.State answers.Refusal) → IsErrAnd d (λ r. r ≡ e) → DecidesInstall o d
+    begun-refused e q (Ok t) x = absurd x
+    begun-refused e q (Err r) x = installed_as ∙ sym q ∙ ap refusal_number (sym x)
 
-    pub begun-refused : (b : State) → view b ≡ blank → ¬ (k ≡ 0) → Refuses b k r → Began o (number_of r.answer) (view r.state)
-    begun-refused b e x q = began-refused b e k installed_as x q
-
-    pub begun-accepted : k ≡ 0 → (t : held.State) → state.view t ≡ root_alone a o.start → Accepts t r → Began o (number_of r.answer) (view r.state)
-    unfolding installed begun view
-    begun-accepted y t m q =
-        let i = installed_as ∙ y in
-        record {
-          answered = q.answer ∙ sym i;
-          became = ap state.view q.state ∙ m ∙ rw (i, read-says n a es (root_in o.file) w z) refl;
-        }
+    pub begun-accepted : n ≡ 0 → (t : held.State) → state.view t ≡ root_alone a o.start → DecidesInstall o (Ok t)
+    unfolding installed begun
+    begun-accepted z t m = let i = installed_as ∙ z in (i, m ∙ rw (i, y) refl)

@@ -2,23 +2,24 @@
 // returns the answer with the next state; a refusal returns the state that it was given. No call asks anything of its caller.
 #![tactic(auto)]
 
-ghost use Rattle.std.specs.Prelude.{◌≡◌, ◌+◌};
+ghost use Rattle.std.specs.Prelude.{◌≡◌, ◌+◌, IsSome};
 ghost use Rattle.sha256.specs.Message.{digest_of};
 ghost use Rattle.rules.specs.State.{blank as blank_state, new_cycle, new_root, new_timestamp, new_snapshot, new_targets};
 ghost use Rattle.rules.specs.Steps.{Began};
 ghost use Rattle.rules.specs.Asked.{image_answer, look as look_into, signed_part, entry_at};
-ghost use Rattle.answers.specs.Number.{number_of};
+ghost use Rattle.answers.specs.Number.{number_of, refusal_number};
 ghost use Rattle.records.specs.View.{view_id};
 ghost use Rattle.state.specs.Told.{Tells};
 ghost use Rattle.inspect.specs.View.{view_look, view_entry_read};
 ghost use Rattle.tuf.specs.View.{view, view_image};
-ghost use Rattle.tuf.specs.Promises.{Refuses, Accepts, Steps, NoImage, FindsImage, NoKey, GivesKey};
+ghost use Rattle.tuf.specs.Promises.{Steps, Decides, DecidesInstall, Hands, NoImage, IsImage, FindsImage, DecidesKey, Gives, GivesKey};
 
-use answers::Answer;
+use answers::{Answer, Refusal};
 use date::Time;
 use inspect::{EntryRead, Looked};
 use records::{Id, Targets};
 use state::Versions;
+use targets_file::Search;
 
 // ---- The state, and what the calls give back
 
@@ -69,137 +70,58 @@ impl State {
     pub fn install(file: &[u8], row: &[u8], start: Time) -> Step
         ensures { Began (record { file = file.entry.now; row = row.now; start = start.seconds }) (number_of result.answer) (view result.state) }
     {
-        let blank = State::blank();
-        let read = root_file::read_root(file);
-        if read.answer != 0 {
-            return blank.refused(read.answer);
-        }
-        let answer = judge::judge_install(read.root, read.entries, row);
-        if answer != 0 {
-            return blank.refused(answer);
-        }
-        accepted(state::State::installed(read.root, start))
+        State::blank().stepped(installed(file, row, start))
     }
 
     // New cycle (A8: 17): refused with a start time earlier than the latest one that the state has had
     pub fn new_cycle(self, start: Time) -> Step
         ensures { Steps self (new_cycle start.seconds) (number_of result.answer) result.state }
     {
-        let answer = judge::judge_cycle(self.trusted, start);
-        if answer != 0 {
-            return self.refused(answer);
-        }
-        accepted(self.trusted.with_start(start))
+        self.stepped(self.after_cycle(start))
     }
 
     // "Root (1 to 6, 9, 10, 11)", and 16: the row of verdicts under the held root's keys, and the one under its own
     pub fn root(self, file: &[u8], held: &[u8], own: &[u8]) -> Step
         ensures { Steps self (new_root (record { file = file.entry.now; held_row = held.now; own_row = own.now })) (number_of result.answer) result.state }
     {
-        let read = root_file::read_root(file);
-        if read.answer != 0 {
-            return self.refused(read.answer);
-        }
-        let answer = judge::judge_root(self.trusted, read.root, read.entries, held, own);
-        if answer != 0 {
-            return self.refused(answer);
-        }
-        accepted(self.trusted.with_root(read.root))
+        self.stepped(self.after_root(file, held, own))
     }
 
     // "Timestamp (1 to 7, 9, 11 to 14)"
     pub fn timestamp(self, file: &[u8], row: &[u8]) -> Step
         ensures { Steps self (new_timestamp (record { file = file.entry.now; row = row.now })) (number_of result.answer) result.state }
     {
-        let read = timestamp_file::read_timestamp(file);
-        if read.answer != 0 {
-            return self.refused(read.answer);
-        }
-        let answer = judge::judge_timestamp(self.trusted, read.timestamp, read.entries, row);
-        if answer != 0 {
-            return self.refused(answer);
-        }
-        accepted(self.trusted.with_timestamp(read.timestamp))
+        self.stepped(self.after_timestamp(file, row))
     }
 
     // "Snapshot (1 to 9, 11, 13, 14)"
     pub fn snapshot(self, file: &[u8], row: &[u8]) -> Step
         ensures { Steps self (new_snapshot (record { file = file.entry.now; row = row.now })) (number_of result.answer) result.state }
     {
-        let read = snapshot_file::read_snapshot(file);
-        if read.answer != 0 {
-            return self.refused(read.answer);
-        }
-        let size = wide(file.len());
-        let digest = sha256::digest(file);
-        let answer = judge::judge_snapshot(
-            self.trusted,
-            read.snapshot,
-            read.entries,
-            row,
-            size,
-            &digest,
-        );
-        if answer != 0 {
-            return self.refused(answer);
-        }
-        accepted(self.trusted.with_snapshot(read.snapshot))
+        self.stepped(self.after_snapshot(file, row))
     }
 
     // "Targets (1 to 9, 11, 14)": "The file's digest is kept". No path is asked for.
     pub fn targets(self, file: &[u8], row: &[u8]) -> Step
         ensures { Steps self (new_targets (record { file = file.entry.now; row = row.now })) (number_of result.answer) result.state }
     {
-        let read = targets_file::read_targets(file, b"");
-        if read.answer != 0 {
-            return self.refused(read.answer);
-        }
-        let size = wide(file.len());
-        let bytes = sha256::digest(file);
-        let expires = read.expires;
-        let answer = judge::judge_targets(
-            self.trusted,
-            read.version,
-            expires,
-            read.entries,
-            row,
-            size,
-            &bytes,
-        );
-        if answer != 0 {
-            return self.refused(answer);
-        }
-        let new = Targets {
-            version: read.version,
-            expires,
-            digest: Id { bytes },
-        };
-        accepted(self.trusted.with_targets(new))
+        self.stepped(self.after_targets(file, row))
     }
 
     // "Find (1 to 8, 15)": "Success gives length and sha256; a refusal gives zeros". A2: the number of names compared is given with 15 too.
     pub fn find(self, file: &[u8], path: &[u8]) -> Image
         ensures { FindsImage self (record { file = file.entry.now; path = path.now }) (number_of result.answer) (view_image result) result.compared }
     {
-        let read = targets_file::read_targets(file, path);
-        if read.answer != 0 {
-            return no_image(read.answer, 0);
-        }
+        let read = match targets_file::read_targets(file, path) {
+            Ok(read) => read,
+            Err(fault) => return no_image(Refusal::from(fault), 0),
+        };
+        let search = read.signed.search;
         let digest = sha256::digest(file);
-        let search = read.search;
-        let answer = judge::judge_find(self.trusted, &digest, path, search.listed);
-        if answer == 15 {
-            return no_image(answer, search.compared);
-        }
-        if answer != 0 {
-            return no_image(answer, 0);
-        }
-        let listed = search.digest;
-        Image {
-            answer: Answer::Accepted,
-            length: search.length,
-            digest: listed,
-            compared: search.compared,
+        match judge::judge_find(self.trusted, &digest, path, search.found.is_some()) {
+            Ok(()) => image_of(search),
+            Err(Refusal::NotListed) => no_image(Refusal::NotListed, search.compared),
+            Err(refusal) => no_image(refusal, 0),
         }
     }
 
@@ -207,23 +129,7 @@ impl State {
     pub fn key(self, keyid: &[u8]) -> PublicKey
         ensures { GivesKey self keyid.now (number_of result.answer) (view_id result.public) }
     {
-        if self.trusted.lacks_root() {
-            return no_key(Answer::NotHeld);
-        }
-        let undone = base::hex32(keyid);
-        if !undone.ok {
-            return no_key(Answer::NotListed);
-        }
-        let bytes = undone.bytes;
-        let asked = self.trusted.public_key(Id { bytes });
-        if !asked.found {
-            return no_key(Answer::NotListed);
-        }
-        let public = asked.public;
-        PublicKey {
-            answer: Answer::Accepted,
-            public,
-        }
+        given(self.listed_key(keyid))
     }
 
     // The versions held, and the start time in force.
@@ -233,16 +139,108 @@ impl State {
         self.trusted.versions()
     }
 
-    // "A refusal returns the state it was given"
-    fn refused(self, number: u8) -> Step
-        ensures { Refuses self number result }
+    // ---- What decides each of them: the refusal, or the trusted state after it
+
+    fn after_cycle(self, start: Time) -> Result<state::State, Refusal>
+        ensures { Decides self (new_cycle start.seconds) result }
     {
-        let answer = answers::numbered(number);
-        Step {
-            answer,
-            state: self,
+        judge::judge_cycle(self.trusted, start)?;
+        Ok(self.trusted.with_start(start))
+    }
+
+    fn after_root(self, file: &[u8], held: &[u8], own: &[u8]) -> Result<state::State, Refusal>
+        ensures { Decides self (new_root (record { file = file.entry.now; held_row = held.now; own_row = own.now })) result }
+    {
+        let read = root_file::read_root(file)?;
+        judge::judge_root(self.trusted, read.signed, read.entries, held, own)?;
+        Ok(self.trusted.with_root(read.signed))
+    }
+
+    fn after_timestamp(self, file: &[u8], row: &[u8]) -> Result<state::State, Refusal>
+        ensures { Decides self (new_timestamp (record { file = file.entry.now; row = row.now })) result }
+    {
+        let read = timestamp_file::read_timestamp(file)?;
+        judge::judge_timestamp(self.trusted, read.signed, read.entries, row)?;
+        Ok(self.trusted.with_timestamp(read.signed))
+    }
+
+    fn after_snapshot(self, file: &[u8], row: &[u8]) -> Result<state::State, Refusal>
+        ensures { Decides self (new_snapshot (record { file = file.entry.now; row = row.now })) result }
+    {
+        let read = snapshot_file::read_snapshot(file)?;
+        let size = wide(file.len());
+        let digest = sha256::digest(file);
+        judge::judge_snapshot(
+            self.trusted,
+            read.signed,
+            read.entries,
+            row,
+            size,
+            &digest,
+        )?;
+        Ok(self.trusted.with_snapshot(read.signed))
+    }
+
+    fn after_targets(self, file: &[u8], row: &[u8]) -> Result<state::State, Refusal>
+        ensures { Decides self (new_targets (record { file = file.entry.now; row = row.now })) result }
+    {
+        let read = targets_file::read_targets(file, b"")?;
+        let version = read.signed.version;
+        let expires = read.signed.expires;
+        let size = wide(file.len());
+        let bytes = sha256::digest(file);
+        judge::judge_targets(
+            self.trusted,
+            version,
+            expires,
+            read.entries,
+            row,
+            size,
+            &bytes,
+        )?;
+        Ok(self.trusted.with_targets(Targets {
+            version,
+            expires,
+            digest: Id { bytes },
+        }))
+    }
+
+    fn listed_key(self, keyid: &[u8]) -> Result<Id, Refusal>
+        ensures { DecidesKey self keyid.now result }
+    {
+        if self.trusted.lacks_root() {
+            return Err(Refusal::NotHeld);
+        }
+        let bytes = base::hex_array(keyid).ok_or(Refusal::NotListed)?;
+        self.trusted
+            .public_key(Id { bytes })
+            .ok_or(Refusal::NotListed)
+    }
+
+    // "A refusal returns the state it was given"
+    fn stepped(self, decided: Result<state::State, Refusal>) -> Step
+        ensures { Hands self decided result }
+    {
+        match decided {
+            Ok(trusted) => Step {
+                answer: Ok(()),
+                state: State { trusted },
+            },
+            Err(refusal) => Step {
+                answer: Err(refusal),
+                state: self,
+            },
         }
     }
+}
+
+// What decides an install.
+fn installed(file: &[u8], row: &[u8], start: Time) -> Result<state::State, Refusal>
+    ensures { DecidesInstall (record { file = file.entry.now; row = row.now; start = start.seconds }) result }
+{
+    let read = root_file::read_root(file)?;
+    judge::judge_install(read.signed, read.entries, row)?;
+    Ok(state::State::installed(read.signed, start))
 }
 
 // SHA-256 of any bytes: for the image check, the digest of the fetched ones.
@@ -257,19 +255,13 @@ pub fn digest(bytes: &[u8]) -> Id
 pub fn check_image(listed: u64, digest: &[u8], fetched: u64, hash: &[u8]) -> Answer
     ensures { number_of result ≡ image_answer (record { length = listed; digest = digest.now }) (record { length = fetched; digest = hash.now }) }
 {
-    if judge::is_bad_digest(digest) {
-        return Answer::BadArgument;
+    if judge::is_bad_digest(digest) || judge::is_bad_digest(hash) {
+        return Err(Refusal::BadArgument);
     }
-    if judge::is_bad_digest(hash) {
-        return Answer::BadArgument;
+    if listed != fetched || !base::same(digest, hash) {
+        return Err(Refusal::OtherContent);
     }
-    if listed != fetched {
-        return Answer::OtherContent;
-    }
-    if !base::same(digest, hash) {
-        return Answer::OtherContent;
-    }
-    Answer::Accepted
+    Ok(())
 }
 
 // ---- Looking into a file (1 to 3): no state is asked for
@@ -304,32 +296,39 @@ fn wide(n: usize) -> u64
     n as u64
 }
 
-fn accepted(trusted: state::State) -> Step
-    ensures { Accepts trusted result }
+fn no_image(refusal: Refusal, compared: usize) -> Image
+    ensures { NoImage (refusal_number refusal) compared result }
 {
-    Step {
-        answer: Answer::Accepted,
-        state: State { trusted },
-    }
-}
-
-fn no_image(number: u8, compared: usize) -> Image
-    ensures { NoImage number compared result }
-{
-    let answer = answers::numbered(number);
     Image {
-        answer,
+        answer: Err(refusal),
         length: 0,
         digest: Id { bytes: [0u8; 32] },
         compared,
     }
 }
 
-fn no_key(answer: Answer) -> PublicKey
-    ensures { NoKey answer result }
+// The image of a search that found one.
+fn image_of(search: Search) -> Image
+    requires { IsSome search.found }
+    ensures { IsImage search result }
+{
+    match search.found {
+        Some(found) => Image {
+            answer: Ok(()),
+            length: found.length,
+            digest: found.digest,
+            compared: search.compared,
+        },
+        None => unreachable!(),
+    }
+}
+
+// The key, or zeros with the refusal.
+fn given(key: Result<Id, Refusal>) -> PublicKey
+    ensures { Gives key result }
 {
     PublicKey {
-        answer,
-        public: Id { bytes: [0u8; 32] },
+        answer: key.map(|_| ()),
+        public: key.unwrap_or(Id { bytes: [0u8; 32] }),
     }
 }

@@ -18,14 +18,14 @@ decreases-pair l = 3 * l.depth + 1
 abbrev pub decreases-value : goal.decreases-value
 decreases-value l = 3 * l.depth
 
-abbrev pub invariant-array-loop-i : goal.invariant-array-loop-i
-invariant-array-loop-i l = end_of (length l.s) (array_of (read l.depth) (drop l.at l.s)) ≡ end_of (length l.s) (elements_of (arrays l.depth) tt (drop l.i l.s))
+abbrev pub invariant-array-loop-e : goal.invariant-array-loop-e
+invariant-array-loop-e l = end_of (length l.s) (array_of (read l.depth) (drop l.at l.s)) ≡ end_of (length l.s) (elements_of (arrays l.depth) tt (drop l.i l.s))
 
-abbrev pub decreases-array-loop-i : goal.decreases-array-loop-i
-decreases-array-loop-i l = length l.s - l.i
+abbrev pub decreases-array-loop-e : goal.decreases-array-loop-e
+decreases-array-loop-e l = length l.s - l.i
 
-abbrev pub invariant-object-loop-i : goal.invariant-object-loop-i
-invariant-object-loop-i l = end_of (length l.s) (object_of (read l.depth) (drop l.at l.s)) ≡ end_of (length l.s) (elements_of (objects l.depth) (last_of l.s l.last) (drop l.i l.s))
+abbrev pub invariant-object-loop-e : goal.invariant-object-loop-e
+invariant-object-loop-e l = end_of (length l.s) (object_of (read l.depth) (drop l.at l.s)) ≡ end_of (length l.s) (elements_of (objects l.depth) (last_of l.s l.last) (drop l.i l.s))
 
-abbrev pub decreases-object-loop-i : goal.decreases-object-loop-i
-decreases-object-loop-i l = length l.s - l.i
+abbrev pub decreases-object-loop-e : goal.decreases-object-loop-e
+decreases-object-loop-e l = length l.s - l.i

@@ -1,12 +1,8 @@
--- `is_shared_block` meets its contract. The invariant: where no other byte was met, those before `k` are shared.
+-- `is_shared_block` meets its contract. The invariant: where no other byte was met, those that were looked at are shared.
 use mathlib.Core.Path.{◌≡◌}
 use mathlib.Core.Bool.{true}
-use Prim.Native.Nat.{◌≤◌, ◌-◌}
 use Rattle.canonical_json.specs.Strings.{SharedRun}
 use Rattle.canonical_json.proofs.is_shared_block.Given as goal
 
 abbrev pub invariant-loop-k : goal.invariant-loop-k
-invariant-loop-k l = (l.k ≤ 16) × (l.all ≡ true → SharedRun l.s l.a l.b l.k)
-
-abbrev pub decreases-loop-k : goal.decreases-loop-k
-decreases-loop-k l = 16 - l.k
+invariant-loop-k l = l.all ≡ true → SharedRun l.s l.a l.b l.k

@@ -5,4 +5,4 @@ use Rattle.capi.proofs.gronwythal_entry.Goals as goal
 
 pub returns : goal.returns
 unfolding view_entry_read
-returns c = entry-number _ _ c.number-answer.ensures _ c.entry-read.ensures
+returns c = entry-number _ _ c.number.ensures _ c.entry-read.ensures

@@ -8,4 +8,4 @@ pub returns : goal.returns
 unfolding view_image tuf.view_image
 returns c =
     let w = c.find-found.ensures in
-    record { answered = c.number-answer.ensures ∙ w.answered; gives = w.gives; counts = w.counts }
+    record { answered = c.number.ensures ∙ w.answered; gives = w.gives; counts = w.counts }

@@ -5,4 +5,4 @@ use Rattle.capi.proofs.gronwythal_look.Goals as goal
 
 pub returns : goal.returns
 unfolding view_look
-returns c = look-number _ _ c.number-answer.ensures _ c.look-looked.ensures
+returns c = look-number _ _ c.number.ensures _ c.look-looked.ensures

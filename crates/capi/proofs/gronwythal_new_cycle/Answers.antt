@@ -5,4 +5,4 @@ use Rattle.capi.proofs.NumberedLaws.{cycles}
 use Rattle.capi.proofs.gronwythal_new_cycle.Goals as goal
 
 pub returns : goal.returns
-returns c = cycles _ (to_z-of_z {w = w64} c.ranges.start) _ _ c.new_cycle.ensures c.numbered.ensures
+returns c = cycles _ (to_z-of_z {w = w64} c.ranges.start) _ _ c.new_cycle.ensures c.from.ensures

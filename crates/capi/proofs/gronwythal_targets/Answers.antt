@@ -4,4 +4,4 @@ use Rattle.capi.proofs.NumberedLaws.{by_number}
 use Rattle.capi.proofs.gronwythal_targets.Goals as goal
 
 pub returns : goal.returns
-returns c = by_number (Steps _ _) _ _ c.numbered.ensures c.targets.ensures
+returns c = by_number (Steps _ _) _ _ c.from.ensures c.targets.ensures

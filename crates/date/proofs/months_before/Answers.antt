@@ -1,6 +1,4 @@
-use Prim.Native.Nat.{ℕ, ◌≤◌, ◌-◌, ◌+◌}
-use mathlib.Core.Path.{◌≡◌, refl}
-use native.Mathlib.Omega.{arith}
+use Rattle.std.proofs.Common.{◌≡◌, ◌-◌, ◌+◌, ◌≤◌, ℕ, refl, arith}
 use Rattle.date.specs.Calendar.{month_days, first_months}
 use Rattle.date.proofs.CalendarLaws.{months-next, month-most}
 use Rattle.date.proofs.months_before.Goals as goal
@@ -13,19 +11,16 @@ few y k r e = rw e (month-most y k)
 
 pub loop-k-init : goal.loop-k-init
 unfolding first_months
-loop-k-init c = (omega arith, (omega arith, (refl, omega arith)))
+loop-k-init c = (refl, omega arith)
 
 pub overflow_add-days : goal.overflow_add-days
 overflow_add-days c = omega (arith, few c.args.year c.loop-k.k c.month_days-days.result c.month_days-days.ensures)
 
 pub loop-k-preserved : goal.loop-k-preserved
 loop-k-preserved c = (
-  omega arith,
-  (
-    omega arith,
-    (next _ _ _ _ (omega arith) c.loop-k.invariant.1.1.0 c.month_days-days.ensures, omega (arith, few c.args.year c.loop-k.k c.month_days-days.result c.month_days-days.ensures)),
-  ),
+  next _ _ _ _ (omega arith) c.loop-k.invariant.0 c.month_days-days.ensures,
+  omega (arith, few c.args.year c.loop-k.k c.month_days-days.result c.month_days-days.ensures),
 )
 
 pub returns : goal.returns
-returns c = let e : c.loop-k.k ≡ c.args.month = omega arith in record { value = rw e at c.loop-k.invariant.1.1.0; upper_bound = omega arith }
+returns c = let e : c.loop-k.k ≡ c.args.month = omega arith in record { value = rw e at c.loop-k.invariant.0; upper_bound = omega arith }

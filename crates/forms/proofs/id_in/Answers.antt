@@ -1,17 +1,9 @@
--- `id_in` meets its contract: digits up to a quote are the whole string.
+-- `id_in` meets its contract.
 use mathlib.Core.Path.{sym, ◌∙◌}
-use native.Mathlib.Omega.{arith}
 use Rattle.records.specs.View.{view_id}
-use Rattle.forms.proofs.TextLaws.{quote-inside, unhex-plain, unhex-window}
-use Rattle.std.proofs.Common.{rules}
+use Rattle.forms.proofs.TextLaws.{unhex-window}
 use Rattle.forms.proofs.id_in.Goals as goal
 
-pub slice_bounds-hex_array-end : goal.slice_bounds-hex_array-end
-slice_bounds-hex_array-end c = let h = quote-inside _ _ _ (sym c.byte_after.ensures ∙ c.if-byte_after-eq34.true) in search rules
-
-pub overflow_add-i : goal.overflow_add-i
-overflow_add-i c = let h = quote-inside _ _ _ (sym c.byte_after.ensures ∙ c.if-byte_after-eq34.true) in search rules
-
-pub returns-in-Some : goal.returns-in-Some
+pub returns : goal.returns
 unfolding view_id
-returns-in-Some c = unhex-window 32 _ _ (unhex-plain 32 _ _ _ _ (omega arith) (sym c.byte_after.ensures ∙ c.if-byte_after-eq34.true) (sym c.in-Some.is ∙ c.hex_array.ensures))
+returns c = unhex-window 32 _ _ (sym c.in_ok-bytes.was ∙ c.hex_in.ensures)

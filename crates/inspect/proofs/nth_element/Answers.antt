@@ -1,29 +1,27 @@
-use Rattle.lookup.proofs.ItemLaws.{ahead-less}
-use Rattle.inspect.proofs.ElementLaws.{nth-first, nth-none, nth_end, nth_here, nth-next}
+use native.Mathlib.Omega.{arith}
+use Rattle.std.proofs.Math.Nat.{sub-zero}
+use Rattle.inspect.proofs.ElementLaws.{nth-first, nth-over, nth_here, nth-next}
 use Rattle.inspect.proofs.nth_element.Goals as goal
 
-pub loop-e-init : goal.loop-e-init
-loop-e-init c = nth-first c.args.s.now _ c.first_element-e.ensures _
+pub loop-init : goal.loop-init
+loop-init c = rw sub-zero (nth-first c.args.s.now _ c.first_element-e.ensures _)
 
-pub returns-then-left-eq0 : goal.returns-then-left-eq0
-returns-then-left-eq0 c =
-    let l = c.loop-e in
-    λ v h. nth_here c.args.s.now l.e l.left _ (l.invariant v h) _ c.in-At.is c.if-left-eq0.true
+pub returns-in_default : goal.returns-in_default
+returns-in_default c =
+    let l = c.loop in
+    λ v h. nth-over c.args.s.now l.e _ _ (l.invariant v h) c.in_default.not-At
 
-pub loop-e-smaller : goal.loop-e-smaller
-loop-e-smaller c = ahead-less c.args.s.now c.loop-e.e _ c.in-At.is c.next_element-e.result c.next_element-e.ensures.onward
+pub loop-preserved : goal.loop-preserved
+loop-preserved c =
+    let l = c.loop in
+    λ v h. nth-next c.args.s.now l.e _ _ (l.invariant v h) _ c.in-At.is _ (omega arith) _ c.next_element-e.ensures
 
-pub loop-e-preserved : goal.loop-e-preserved
-loop-e-preserved c =
-    let l = c.loop-e in
-    λ v h. nth-next c.args.s.now l.e l.left _ (l.invariant v h) _ c.in-At.is c.if-left-eq0.false _ c.next_element-e.ensures
+pub returns-in-At-e : goal.returns-in-At-e
+returns-in-At-e c =
+    let l = c.loop in
+    λ v h. nth_here c.args.s.now l.e _ _ (l.invariant v h) _ c.in-At-e.is (omega arith)
 
-pub returns-in-NoArray : goal.returns-in-NoArray
-returns-in-NoArray c =
-    let l = c.loop-e in
-    λ v h. nth-none c.args.s.now l.e l.left _ (l.invariant v h) c.in-NoArray.is
-
-pub returns-in-End : goal.returns-in-End
-returns-in-End c =
-    let l = c.loop-e in
-    λ v h. nth_end c.args.s.now l.e l.left _ (l.invariant v h) _ c.in-End.is
+pub returns-in_default-e : goal.returns-in_default-e
+returns-in_default-e c =
+    let l = c.loop in
+    λ v h. nth-over c.args.s.now l.e _ _ (l.invariant v h) c.in_default-e.not-At

@@ -1,7 +1,9 @@
--- `same_id`: the windows compared are the whole ids.
-use Rattle.records.specs.View.{view_id}
+-- `same_id`: `==` on all 32 bytes.
+use Rattle.std.proofs.Common.{arith, ◌∙◌}
+use Rattle.records.proofs.ListLaws.{equal-same}
+use Rattle.records.proofs.MeantLaws.{id_whole}
 use Rattle.keys.proofs.same_id.Goals as goal
 
 pub returns : goal.returns
-unfolding view_id
-returns c = c.same_window.ensures
+returns c =
+    rw (id_whole c.args.a (omega arith), id_whole c.args.b (omega arith)) (c.eq.ensures ∙ equal-same _ _)

@@ -1,24 +1,25 @@
-use mathlib.Core.Path.{sym, ap, ◌∙◌}
-use native.Mathlib.Omega.{arith}
+-- `targets_entry`: the first name that is `targets.json`.
+use Rattle.std.proofs.Common.{rules, tests, ◌∙◌, ap, sym}
+use Rattle.std.specs.Option.{option_map}
+use Rattle.std.proofs.lemmas.Iterator.{YieldsList-from_slice}
+use Rattle.std.proofs.lemmas.Iterator.Search.{find_from_yields_List}
+use Rattle.base.specs.Bytes.{bytes, same}
 use Rattle.canonical_json.specs.Fields.{keep}
 use Rattle.rules.specs.Conditions.{listed_as}
-use Rattle.records.specs.View.{view_listed}
-use Rattle.names.proofs.NameLaws.{names-start, listed-hit, listed-skip, listed-end, entry-some, entry-none}
+use Rattle.records.specs.declared.Named.{Named}
+use Rattle.records.specs.View.{view_listed, view_name}
+use Rattle.names.proofs.NameLaws.{entry-some, entry-none, listed-find, listed-none}
 use Rattle.names.proofs.targets_entry.Goals as goal
 
-pub loop-i-init : goal.loop-i-init
-loop-i-init c = ap (listed_as _) (names-start _ _ c.at_most-n.ensures)
+pub returns-in-Some : goal.returns-in-Some
+returns-in-Some c s e =
+    let found =
+    find_from_yields_List {s = c.iter.result} (λ (n : Named). same (bytes "targets.json") (view_name n.name)) _ _ c.find.result c.find.ensures.ran (YieldsList-from_slice c.listed.result.now cc) (λ x b q h. search (rules, tests)) in
+    entry-some s _ (ap (listed_as _) (e ∙ sym c.listed.ensures.viewed) ∙ listed-find _ _ _ (sym found ∙ ap (option_map _) c.in-Some.is))
 
-pub returns-then-is_targets : goal.returns-then-is_targets
-returns-then-is_targets c s e =
-    let l = c.loop-i in
-    entry-some s _ (ap (listed_as _) e ∙ l.invariant ∙ listed-hit _ _ l.i _ (omega arith) (sym c.is_targets.ensures ∙ c.if-is_targets.true))
-
-pub loop-i-preserved : goal.loop-i-preserved
-loop-i-preserved c =
-    let l = c.loop-i in
-    l.invariant ∙ listed-skip _ _ l.i _ (omega arith) (sym c.is_targets.ensures ∙ c.if-is_targets.false)
-
-pub returns : goal.returns
+pub returns-in-None : goal.returns-in-None
 unfolding view_listed keep
-returns c s e = let l = c.loop-i in entry-none s (ap (listed_as _) e ∙ l.invariant ∙ listed-end _ _ l.i _ c.loop-i-test.false)
+returns-in-None c s e =
+    let found =
+    find_from_yields_List {s = c.iter.result} (λ (n : Named). same (bytes "targets.json") (view_name n.name)) _ _ c.find.result c.find.ensures.ran (YieldsList-from_slice c.listed.result.now cc) (λ x b q h. search (rules, tests)) in
+    entry-none s (ap (listed_as _) (e ∙ sym c.listed.ensures.viewed) ∙ listed-none _ _ (sym found ∙ ap (option_map _) c.in-None.is))

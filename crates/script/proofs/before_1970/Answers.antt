@@ -1,17 +1,11 @@
--- `before_1970`: the number that was read, as a time.
-use mathlib.Core.Path.{sym, ap, ◌∙◌}
-use Rattle.script.specs.Numbers.{below, view_moment}
-use Rattle.canonical_json.specs.Fields.{keep}
-use Rattle.std.specs.declared.option.Option.TheVariants.{Some}
-use borrow.Author.Tests.{not-true, not-false}
+-- `before_1970`: so many seconds before.
+use Rattle.std.proofs.Common.{ap, ◌∙◌, Some}
+use Rattle.std.specs.Option.{option_map}
+use Rattle.script.specs.Numbers.{below}
 use Rattle.script.proofs.NumberLaws as numbers
 use Rattle.script.proofs.before_1970.Goals as goal
 
-pub returns-then-not-read : goal.returns-then-not-read
-returns-then-not-read c = c.no_moment.ensures ∙ sym (numbers.through-none below c.number_from-read.result _ c.number_from-read.ensures.0 (not-true _ c.if-not-read.true))
-
 pub returns : goal.returns
-unfolding view_moment keep
 returns c =
-    let n = c.number_from-read in
-    ap Some (numbers.below-back n.result.value c.opposite-seconds.result n.ensures.1 c.opposite-seconds.ensures) ∙ sym (numbers.through-some below n.result _ n.ensures.0 (not-false _ c.if-not-read.false))
+    let s = c.in_ok-seconds.ensures in
+    ap Some (numbers.before_is c.in_ok-n.n c.in_ok-seconds.seconds s.0 s.1) ∙ ap (option_map below) c.in_ok-n.ensures.value

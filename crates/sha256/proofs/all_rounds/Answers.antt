@@ -1,27 +1,15 @@
-use Rattle.std.proofs.Common.{◌≡◌, ◌+◌, length, drop, sym, refl, ap, ◌∙◌, arith, rules}
+use Rattle.std.proofs.Common.{sym, ◌∙◌, arith}
 use Rattle.sha256.specs.Constants.{constants}
-use Rattle.sha256.specs.Compress.{rounds}
-use Rattle.sha256.specs.declared.Hash.{Hash}
+use Rattle.std.proofs.lemmas.Grind.{common_steps}
 use Rattle.sha256.proofs.RoundLaws.{rounds-next, rounds-end}
-use Rattle.std.proofs.Common.{rules}
 use Rattle.sha256.proofs.all_rounds.Goals as goal
 
-pub loop-t-init : goal.loop-t-init
-loop-t-init c = (omega arith, refl)
-
-pub loop-t-preserved : goal.loop-t-preserved
+pub loop-k-init : goal.loop-k-init
 unfolding constants
-loop-t-preserved c =
-    let l = c.loop-t in
-    let w = c.args.w in
-    let n : length w ≡ 64 = search rules in (
-      omega arith,
-      l.invariant.1 ∙ rounds-next l.v constants w l.t (omega arith) (omega arith)
-          ∙ ap (λ (h : Hash). rounds h (drop (l.t + 1) constants) (drop (l.t + 1) w)) (sym c.round-v.ensures),
-    )
+loop-k-init c = cc
+
+pub loop-k-preserved : goal.loop-k-preserved
+loop-k-preserved c = c.loop-k.invariant ∙ rounds-next _ _ _ _ _ _ _ _ c.in-Some.ensures.steps.0 c.in-Some.ensures.steps.1 c.round-v.ensures
 
 pub returns : goal.returns
-unfolding constants
-returns c =
-    let l = c.loop-t in
-    sym (l.invariant.1 ∙ rounds-end l.v constants _ l.t (omega arith))
+returns c = sym (c.loop-k.invariant ∙ rounds-end _ _ _ (grind (arith, common_steps)))

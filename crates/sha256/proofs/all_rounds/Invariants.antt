@@ -1,11 +1,8 @@
--- `all_rounds`: the rounds from t on are left.
-use Rattle.std.proofs.Common.{◌≡◌, ◌-◌, ◌≤◌, drop}
+-- `all_rounds`: the rounds that the iterators have left are left.
+use Rattle.std.proofs.Common.{◌≡◌}
 use Rattle.sha256.specs.Constants.{constants}
 use Rattle.sha256.specs.Compress.{rounds}
 use Rattle.sha256.proofs.all_rounds.Given as goal
 
-abbrev pub invariant-loop-t : goal.invariant-loop-t
-invariant-loop-t l = (l.t ≤ 64) × (rounds l.initial.v constants l.w ≡ rounds l.v (drop l.t constants) (drop l.t l.w))
-
-abbrev pub decreases-loop-t : goal.decreases-loop-t
-decreases-loop-t l = 64 - l.t
+abbrev pub invariant-loop-k : goal.invariant-loop-k
+invariant-loop-k l = rounds l.fn.h constants l.fn.w ≡ rounds l.v l.k-iterator.a.rest.now l.k-iterator.b.rest.now

@@ -1,10 +1,7 @@
 -- `expand`: the first t words of the schedule are written.
-use Rattle.std.proofs.Common.{◌≡◌, ◌-◌, ◌≤◌, length, take}
+use Rattle.std.proofs.Common.{◌≡◌, ◌-◌, length, take}
 use Rattle.sha256.specs.Compress.{schedule}
 use Rattle.sha256.proofs.expand.Given as goal
 
 abbrev pub invariant-loop-t : goal.invariant-loop-t
-invariant-loop-t l = (16 ≤ l.t) × (l.t ≤ 64) × (length l.w ≡ 64) × (take l.t l.w ≡ schedule (take 16 l.initial.w) (l.t - 16))
-
-abbrev pub decreases-loop-t : goal.decreases-loop-t
-decreases-loop-t l = 64 - l.t
+invariant-loop-t l = (length l.w ≡ 64) × (take l.t l.w ≡ schedule (take 16 l.initial.w) (l.t - 16))

@@ -4,7 +4,7 @@ use Rattle.sha256.proofs.PaddingLaws.{tail_short, tail-long}
 use Rattle.sha256.proofs.tail_size.Goals as goal
 
 pub returns-then-n-lt-ROOM : goal.returns-then-n-lt-ROOM
-returns-then-n-lt-ROOM c = record { value = tail_short _ c.if-n-lt-ROOM.true; upper_bound = omega arith }
+returns-then-n-lt-ROOM c = record { value = tail_short _ (omega arith); upper_bound = omega arith }
 
-pub returns : goal.returns
-returns c = record { value = tail-long _ c.if-n-lt-ROOM.false; upper_bound = omega arith }
+pub returns-else-n-lt-ROOM : goal.returns-else-n-lt-ROOM
+returns-else-n-lt-ROOM c = record { value = tail-long _ (omega arith); upper_bound = omega arith }

@@ -1,10 +1,15 @@
 -- `meta_names` meets its contract.
+use mathlib.Core.Path.{refl}
 use Rattle.lookup.proofs.StandsLaws.{end_of-none, end_of-found}
 use Rattle.forms.proofs.StepLaws.{must-none, must-at}
 use Rattle.snapshot_file.proofs.meta_names.Goals as goal
 
-pub returns-in-None : goal.returns-in-None
-returns-in-None c = (λ p k w. must-none _ p k w _ _ c.in-None.is c.no_names.ensures.0, end_of-none _ _ _ c.in-None.is)
+pub returns-in_err-found : goal.returns-in_err-found
+returns-in_err-found c =
+    let q = c.in_err-found.was in
+    rw c.from_residual.ensures (record { means = λ p k w. must-none _ p k w _ _ q refl; end = end_of-none _ _ _ q })
 
-pub returns-in-Some : goal.returns-in-Some
-returns-in-Some c = (λ p k w. must-at _ p k w _ _ _ c.in-Some.is c.names_at.ensures.0, end_of-found _ _ _ _ c.in-Some.is c.names_at.ensures.1)
+pub returns : goal.returns
+returns c =
+    let q = c.in_ok-found.was in
+    record { means = λ p k w. must-at _ p k w _ _ _ q c.names_at.ensures.means; end = end_of-found _ _ _ _ q c.names_at.ensures.end }

@@ -1,17 +1,17 @@
 -- `named_at` meets its contract.
-use mathlib.Core.Path.{◌∙◌}
-use borrow.Author.Tests.{not-true, not-false}
-use Rattle.lookup.proofs.StandsLaws.{known-none}
 use Rattle.records.specs.View.{view_named}
-use Rattle.forms.specs.View.{view_listed_at}
-use Rattle.snapshot_file.specs.View.{view_name_at, view_named_at}
-use Rattle.snapshot_file.proofs.NameLaws.{no_name, named-is}
+use Rattle.snapshot_file.proofs.NameLaws.{no-name, no-listed, named-is}
 use Rattle.snapshot_file.proofs.named_at.Goals as goal
 
-pub returns-then-not-read : goal.returns-then-not-read
-unfolding view_name_at
-returns-then-not-read c = (λ v h. c.no_named.ensures.0 ∙ no_name _ v _ _ c.name_in-read.ensures (not-true _ c.if-not-read.true), known-none _ _ _ c.no_named.ensures.1)
+pub returns-in_err-name : goal.returns-in_err-name
+returns-in_err-name c = rw c.from_residual.ensures (record { means = λ v h. no-name _ v c.in_err-name.ensures; end = tt })
+
+pub returns-in_err-said : goal.returns-in_err-said
+returns-in_err-said c =
+    rw c.from_residual-in_err-said.ensures (record { means = λ v h. no-listed _ v _ c.in_ok-name.ensures (c.in_err-said.ensures.means v h); end = tt })
 
 pub returns : goal.returns
-unfolding view_name_at view_named_at view_named view_listed_at
-returns c = (λ v h. named-is _ v _ _ c.name_in-read.ensures (not-false _ c.if-not-read.false) _ _ (c.listed_at-said.ensures.0 v h), c.listed_at-said.ensures.1)
+unfolding view_named
+returns c =
+    let said = c.in_ok-said.ensures in
+    record { means = λ v h. named-is _ v _ c.in_ok-name.ensures _ (said.means v h); end = said.end }

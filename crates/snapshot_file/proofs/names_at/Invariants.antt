@@ -18,8 +18,8 @@ use Rattle.snapshot_file.proofs.names_at.Given as goal
 
 abbrev pub invariant-loop-m : goal.invariant-loop-m
 invariant-loop-m l =
-    (l.n ≤ max_names) × (length l.all ≡ max_names) × Walks l.s l.at l.m × Seeks l.s l.at (bytes "targets.json") l.m l.targets
-    × ((v : Json) → Stands l.s l.at v → MembersWalk named 1 max_names l.s l.m l.n (front view_named no_named l.all l.n) (each_member 1 max_names named v))
+    (l.n ≤ max_names) × (length l.named ≡ max_names) × Walks l.s l.at l.m × Seeks l.s l.at (bytes "targets.json") l.m l.targets
+    × ((v : Json) → Stands l.s l.at v → MembersWalk named 1 max_names l.s l.m l.n (front view_named no_named l.named l.n) (each_member 1 max_names named v))
 
 abbrev pub decreases-loop-m : goal.decreases-loop-m
 decreases-loop-m l = ahead l.s l.m

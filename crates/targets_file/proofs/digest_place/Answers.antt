@@ -5,10 +5,12 @@ use Rattle.forms.specs.View.{undone_at}
 use Rattle.forms.proofs.StepLaws.{must-none, must-at}
 use Rattle.targets_file.proofs.digest_place.Goals as goal
 
-pub returns-in-None : goal.returns-in-None
+pub returns-in_err-hashes : goal.returns-in_err-hashes
 unfolding undone_at
-returns-in-None c = (λ p k w. must-none _ p k w _ _ c.in-None.is refl, tt)
+returns-in_err-hashes c = rw c.from_residual.ensures (λ p k w. must-none _ p k w _ _ c.in_err-hashes.was refl, tt)
 
-pub returns-in-Some : goal.returns-in-Some
+pub returns : goal.returns
 unfolding sha256
-returns-in-Some c = (λ p k w. must-at _ p k w _ _ _ c.in-Some.is (c.digits_field.ensures.0 _ _ c.find_member-found.ensures.means), c.digits_field.ensures.1)
+returns c =
+    let d = c.digits_field.ensures in
+    (λ p k w. must-at _ p k w _ _ _ c.in_ok-hashes.was (d.0 _ _ c.find_member-found.ensures.means), d.1)

@@ -1,24 +1,30 @@
 -- `image_at` meets its contract.
+use mathlib.Core.Logic.{◌⊎◌}
+use mathlib.Core.Path.{refl}
+use Prim.Native.Nat.{◌≤◌, ◌<◌}
 use native.Mathlib.Omega.{arith}
-use Rattle.targets_file.proofs.ImageLaws.{path_empty, path-long, reads-named, broken-name}
+use Rattle.std.proofs.lemmas.Grind.{common_steps}
+use Rattle.rules.specs.Limits.{max_path}
+use Rattle.targets_file.proofs.ImageLaws.{path-out, reads-named, broken-name}
 use Rattle.targets_file.proofs.image_at.Goals as goal
 
-pub returns-then-name_length-lt1 : goal.returns-then-name_length-lt1
-returns-then-name_length-lt1 c =
+pub returns-then-not-contains : goal.returns-then-not-contains
+returns-then-not-contains c =
     let e = c.text_len-name_length.ensures in
-    broken-name _ _ _ c.no_image.ensures.0 c.no_image.ensures.1 _ (λ v g. path_empty _ v (omega arith))
+    let n = c.text_len-name_length.result in
+    let h : (n < 1) ⊎ (max_path < n) = grind (arith, common_steps) in
+    broken-name _ _ _ (λ v. path-out _ v (rw e at h))
 
-pub returns-then-name_length-gt-MAX_PATH : goal.returns-then-name_length-gt-MAX_PATH
-returns-then-name_length-gt-MAX_PATH c =
+pub returns-in-Some : goal.returns-in-Some
+returns-in-Some c =
     let e = c.text_len-name_length.ensures in
-    broken-name _ _ _ c.no_image-then-name_length-gt-MAX_PATH.ensures.0 c.no_image-then-name_length-gt-MAX_PATH.ensures.1 _ (λ v g. path-long _ v (omega arith))
+    let lo : 1 ≤ c.text_len-name_length.result = grind (arith, common_steps) in
+    let hi : c.text_len-name_length.result ≤ max_path = grind (arith, common_steps) in
+    reads-named _ _ _ _ (rw e at lo) (rw e at hi) (c.in-Some.ensures refl)
 
-pub returns-then-plain : goal.returns-then-plain
-returns-then-plain c =
+pub returns-in-None : goal.returns-in-None
+returns-in-None c =
     let e = c.text_len-name_length.ensures in
-    reads-named _ _ _ _ (omega arith) (omega arith) (c.plain_image-plain.ensures c.if-plain.true)
-
-pub returns : goal.returns
-returns c =
-    let e = c.text_len-name_length.ensures in
-    reads-named _ _ _ _ (omega arith) (omega arith) c.walked_image.ensures
+    let lo : 1 ≤ c.text_len-name_length.result = grind (arith, common_steps) in
+    let hi : c.text_len-name_length.result ≤ max_path = grind (arith, common_steps) in
+    reads-named _ _ _ _ (rw e at lo) (rw e at hi) c.walked_image.ensures

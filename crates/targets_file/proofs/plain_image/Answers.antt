@@ -4,7 +4,6 @@ use mathlib.Core.Path.{sym, ◌∙◌}
 use Prim.Native.Nat.{◌+◌, ◌*◌}
 use native.Mathlib.Omega.{arith}
 use lib.ListN.{length}
-use Rattle.base.proofs.TestLaws.{never}
 use Rattle.base.proofs.ByteLaws.{stood_text, stood_within}
 use Rattle.rules.specs.Limits.{digest_size}
 use Rattle.forms.proofs.TextLaws.{digits-within}
@@ -12,26 +11,17 @@ use Rattle.targets_file.specs.Plain.{opening, between}
 use Rattle.targets_file.proofs.PlainLaws.{plain-image}
 use Rattle.targets_file.proofs.plain_image.Goals as goal
 
-pub returns-then-not-has_at : goal.returns-then-not-has_at
-returns-then-not-has_at c = λ q. never (sym q ∙ c.no_image.ensures.0)
-
 pub overflow_add-digest : goal.overflow_add-digest
 overflow_add-digest c =
     let a = c.args in
     let h = stood_within a.s.now opening a.at (sym c.has_at.ensures ∙ c.if-not-has_at.false) (omega arith) in
     search rules
 
-pub returns-then-not-has_digits : goal.returns-then-not-has_digits
-returns-then-not-has_digits c = λ q. never (sym q ∙ c.no_image-then-not-has_digits.ensures.0)
-
 pub overflow_add-e : goal.overflow_add-e
 overflow_add-e c =
     let a = c.args in
     let d = digits-within digest_size a.s.now _ (sym c.has_digits.ensures ∙ c.if-not-has_digits.false) in
     search rules
-
-pub returns-then-not-has_at-2 : goal.returns-then-not-has_at-2
-returns-then-not-has_at-2 c = λ q. never (sym q ∙ c.no_image-then-not-has_at-2.ensures.0)
 
 pub overflow_add-e-2 : goal.overflow_add-e-2
 overflow_add-e-2 c =
@@ -44,4 +34,4 @@ returns c =
     let a = c.args in
     let before = stood_text a.s.now opening a.at (sym c.has_at.ensures ∙ c.if-not-has_at.false) in
     let after = stood_text a.s.now between (a.at + length opening + digest_size * 2) (sym c.has_at-2.ensures ∙ c.if-not-has_at-2.false) in
-    λ o. plain-image _ _ _ _ _ before (sym c.has_digits.ensures ∙ c.if-not-has_digits.false) after (c.plain_length.ensures o) o (omega arith)
+    λ _. plain-image _ _ _ _ _ _ before (sym c.has_digits.ensures ∙ c.if-not-has_digits.false) after c.in_ok-length.ensures (omega arith)

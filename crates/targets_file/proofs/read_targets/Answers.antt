@@ -1,51 +1,70 @@
 -- `read_targets` meets its contract.
-use mathlib.Core.Bool.{true}
-use mathlib.Core.Path.{refl, sym, ap, ◌∙◌}
-use Rattle.std.specs.declared.option.Option.TheVariants.{Some}
+use mathlib.Core.Path.{◌≡◌, refl, sym, ◌∙◌}
+use native.Mathlib.Omega.{arith}
 use borrow.Author.Tests.{not-true, not-false}
+use Rattle.std.specs.declared.option.Option.TheVariants.{None, Some}
+use Rattle.std.proofs.lemmas.Result.{err_from_is_err_and}
 use Rattle.rules.specs.Forms.{targets}
-use Rattle.envelope.specs.Header.{view_header}
 use Rattle.rules.specs.Reading.{no_table}
+use Rattle.envelope.specs.Header.{view_header}
+use Rattle.envelope.specs.declared.Fault.TheVariants.{BadForm}
 use Rattle.envelope.proofs.RoleLaws.{role-refused, role-broken, role_headless, role-other, role-says}
-use Rattle.targets_file.specs.View.{listing_in, view_images, view_targets_read}
+use Rattle.targets_file.specs.View.{listing_in, view_seen}
 use Rattle.targets_file.proofs.ImageLaws.{listing_in-must}
 use Rattle.targets_file.proofs.BodyLaws.{as_seen, seen_in}
 use Rattle.targets_file.proofs.read_targets.Goals as goal
 
-pub returns-then-opened-ne0 : goal.returns-then-opened-ne0
-unfolding view_targets_read
-returns-then-opened-ne0 c =
+pub returns-in_err-opened : goal.returns-in_err-opened
+returns-in_err-opened c =
     let a = c.args in
-    role-refused _ (listing_in a.path.now targets) no_table as_seen a.file.now c.open_envelope-opened.result c.open_envelope-opened.ensures _ _ _ c.if-opened-ne0.true c.refused.ensures
-    ∙ ap Some (sym (seen_in a.path.now a.file.now))
+    let p = err_from_is_err_and c.from_residual.result c.from_residual.ensures.1 in
+    rw (p.1, p.2) (role-refused _ (listing_in a.path.now targets) no_table as_seen view_seen a.file.now _ c.in_err-opened.ensures ∙ sym (seen_in a.path.now a.file.now))
 
-pub returns-then-not-body : goal.returns-then-not-body
-unfolding view_targets_read view_images targets
-returns-then-not-body c =
+pub returns-in_err-images : goal.returns-in_err-images
+unfolding targets
+returns-in_err-images c =
     let a = c.args in
-    role-broken _ (listing_in a.path.now targets) no_table as_seen a.file.now c.open_envelope-opened.result c.open_envelope-opened.ensures _ _ _ c.if-opened-ne0.false _ _ (λ v h. c.images_field-body.ensures.0 _ _ c.find_member-found.ensures.means v h ∙ listing_in-must _ _ _ v) (not-true _ c.if-not-body.true) c.refused-then-not-body.ensures
-    ∙ ap Some (sym (seen_in a.path.now a.file.now))
+    let p = err_from_is_err_and c.from_residual-in_err-images.result c.from_residual-in_err-images.ensures.1 in
+    let e : c.in_err-images.field-0.0 ≡ BadForm = grind arith in
+    let n : c.images_field.result ≡ None = grind arith in
+    let images = rw n at (c.images_field.ensures.means _ _ c.find_member-found.ensures.means) in
+    rw (p.1, p.2, e)
+    (role-broken _ (listing_in a.path.now targets) no_table as_seen view_seen a.file.now _ c.in_ok-opened.ensures (λ v h. images v h ∙ listing_in-must _ _ _ v) ∙ sym (seen_in a.path.now a.file.now))
+
+pub returns-in_err-header : goal.returns-in_err-header
+returns-in_err-header c =
+    let a = c.args in
+    let p = err_from_is_err_and c.from_residual-in_err-header.result c.from_residual-in_err-header.ensures.1 in
+    let e : c.in_err-header.field-0.0 ≡ BadForm = grind arith in
+    let m : c.images_field.result ≡ Some c.in_ok-images.images = grind arith in
+    let n : c.header_at.result ≡ None = grind arith in
+    let end = rw m at c.images_field.ensures.end in
+    let header = rw n at (c.header_at.ensures (c.extent_of-body.ensures _ end)) in
+    rw (p.1, p.2, e)
+    (role_headless _ (listing_in a.path.now targets) no_table as_seen view_seen a.file.now _ c.in_ok-opened.ensures header ∙ sym (seen_in a.path.now a.file.now))
 
 pub returns-then-not-header : goal.returns-then-not-header
-unfolding view_targets_read view_images view_header targets
+unfolding targets view_header
 returns-then-not-header c =
     let a = c.args in
-    role_headless _ (listing_in a.path.now targets) no_table as_seen a.file.now c.open_envelope-opened.result c.open_envelope-opened.ensures _ _ _ c.if-opened-ne0.false _ _ (λ v h. c.images_field-body.ensures.0 _ _ c.find_member-found.ensures.means v h ∙ listing_in-must _ _ _ v)
-    _ _ (c.header_at-header.ensures (c.extent_of.ensures _ c.images_field-body.ensures.1)) (not-true _ c.if-not-header.true) c.refused-then-not-header.ensures
-    ∙ ap Some (sym (seen_in a.path.now a.file.now))
-
-pub returns-then-not-header-2 : goal.returns-then-not-header-2
-unfolding view_targets_read view_images view_header targets
-returns-then-not-header-2 c =
-    let a = c.args in
-    role-other _ (listing_in a.path.now targets) no_table as_seen a.file.now c.open_envelope-opened.result c.open_envelope-opened.ensures _ _ _ c.if-opened-ne0.false _ _ (λ v h. c.images_field-body.ensures.0 _ _ c.find_member-found.ensures.means v h ∙ listing_in-must _ _ _ v)
-    _ _ (c.header_at-header.ensures (c.extent_of.ensures _ c.images_field-body.ensures.1)) (not-false _ c.if-not-body.false) (not-false _ c.if-not-header.false) true (λ v h. refl) refl (not-true _ c.if-not-header-2.true) c.refused-then-not-header-2.ensures
-    ∙ ap Some (sym (seen_in a.path.now a.file.now))
+    let m : c.images_field.result ≡ Some c.in_ok-images.images = grind arith in
+    let n : c.header_at.result ≡ Some c.in_ok-header.header = grind arith in
+    let images = rw m at (c.images_field.ensures.means _ _ c.find_member-found.ensures.means) in
+    let end = rw m at c.images_field.ensures.end in
+    let header = rw n at (c.header_at.ensures (c.extent_of-body.ensures _ end)) in
+    role-other _ (listing_in a.path.now targets) no_table as_seen view_seen a.file.now _ c.in_ok-opened.ensures _ (λ v h. images v h ∙ listing_in-must _ _ _ v)
+    _ header (λ v h. refl) (not-true _ c.if-not-header.true)
+    ∙ sym (seen_in a.path.now a.file.now)
 
 pub returns : goal.returns
-unfolding view_targets_read view_images view_header as_seen targets
+unfolding targets view_header as_seen view_seen
 returns c =
     let a = c.args in
-    role-says _ (listing_in a.path.now targets) no_table as_seen a.file.now c.open_envelope-opened.result c.open_envelope-opened.ensures _ _ _ c.if-opened-ne0.false _ _ (λ v h. c.images_field-body.ensures.0 _ _ c.find_member-found.ensures.means v h ∙ listing_in-must _ _ _ v)
-    _ _ (c.header_at-header.ensures (c.extent_of.ensures _ c.images_field-body.ensures.1)) (not-false _ c.if-not-body.false) (not-false _ c.if-not-header.false) true (λ v h. refl) refl (not-false _ c.if-not-header-2.false) refl (λ spec. refl) refl
-    ∙ ap Some (sym (seen_in a.path.now a.file.now))
+    let m : c.images_field.result ≡ Some c.in_ok-images.images = grind arith in
+    let n : c.header_at.result ≡ Some c.in_ok-header.header = grind arith in
+    let images = rw m at (c.images_field.ensures.means _ _ c.find_member-found.ensures.means) in
+    let end = rw m at c.images_field.ensures.end in
+    let header = rw n at (c.header_at.ensures (c.extent_of-body.ensures _ end)) in
+    role-says _ (listing_in a.path.now targets) no_table as_seen view_seen a.file.now _ c.in_ok-opened.ensures _ (λ v h. images v h ∙ listing_in-must _ _ _ v)
+    _ header (λ v h. refl) (not-false _ c.if-not-header.false) _ (λ spec. refl) refl
+    ∙ sym (seen_in a.path.now a.file.now)

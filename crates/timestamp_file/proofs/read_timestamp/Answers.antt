@@ -1,39 +1,60 @@
 -- `read_timestamp` meets its contract.
-use mathlib.Core.Bool.{true}
-use mathlib.Core.Path.{refl}
+use mathlib.Core.Path.{◌≡◌, refl}
+use native.Mathlib.Omega.{arith}
 use borrow.Author.Tests.{not-true, not-false}
-use Rattle.envelope.specs.Header.{view_header}
-use Rattle.envelope.proofs.RoleLaws.{role-refused, role-broken, role_headless, role-other, role-says}
+use Rattle.std.specs.declared.option.Option.TheVariants.{None, Some}
+use Rattle.std.proofs.lemmas.Result.{err_from_is_err_and}
 use Rattle.rules.specs.Forms.{timestamp}
 use Rattle.rules.specs.Reading.{no_table, read_timestamp}
 use Rattle.rules.specs.State.{keep_timestamp, timestamp_in}
 use Rattle.records.specs.View.{view_timestamp}
-use Rattle.forms.specs.View.{view_listed_at}
-use Rattle.timestamp_file.specs.View.{view_timestamp_read}
+use Rattle.envelope.specs.Header.{view_header}
+use Rattle.envelope.specs.declared.Fault.TheVariants.{BadForm}
+use Rattle.envelope.proofs.RoleLaws.{role-refused, role-broken, role_headless, role-other, role-says}
 use Rattle.timestamp_file.proofs.read_timestamp.Goals as goal
 
-pub returns-then-opened-ne0 : goal.returns-then-opened-ne0
-unfolding timestamp_in read_timestamp timestamp view_timestamp_read
-returns-then-opened-ne0 c = role-refused _ _ no_table keep_timestamp c.args.file.now c.open_envelope-opened.result c.open_envelope-opened.ensures _ _ _ c.if-opened-ne0.true c.refused.ensures
+pub returns-in_err-opened : goal.returns-in_err-opened
+unfolding timestamp_in read_timestamp timestamp
+returns-in_err-opened c =
+    let p = err_from_is_err_and c.from_residual.result c.from_residual.ensures.1 in
+    rw (p.1, p.2) (role-refused _ _ no_table keep_timestamp view_timestamp c.args.file.now _ c.in_err-opened.ensures)
 
-pub returns-then-not-body : goal.returns-then-not-body
-unfolding timestamp_in read_timestamp timestamp view_timestamp_read view_listed_at
-returns-then-not-body c = role-broken _ _ no_table keep_timestamp c.args.file.now c.open_envelope-opened.result c.open_envelope-opened.ensures _ _ _ c.if-opened-ne0.false _ _ (c.meta_listed-body.ensures.0 _ _ c.find_member-found.ensures.means) (not-true _ c.if-not-body.true) c.refused-then-not-body.ensures
+pub returns-in_err-meta : goal.returns-in_err-meta
+unfolding timestamp_in read_timestamp timestamp
+returns-in_err-meta c =
+    let p = err_from_is_err_and c.from_residual-in_err-meta.result c.from_residual-in_err-meta.ensures.1 in
+    let e : c.in_err-meta.field-0.0 ≡ BadForm = grind arith in
+    let n : c.meta_listed.result ≡ None = grind arith in
+    let meta = rw n at (c.meta_listed.ensures.means _ _ c.find_member-found.ensures.means) in
+    rw (p.1, p.2, e) (role-broken _ _ no_table keep_timestamp view_timestamp c.args.file.now _ c.in_ok-opened.ensures meta)
+
+pub returns-in_err-header : goal.returns-in_err-header
+unfolding timestamp_in read_timestamp timestamp
+returns-in_err-header c =
+    let p = err_from_is_err_and c.from_residual-in_err-header.result c.from_residual-in_err-header.ensures.1 in
+    let e : c.in_err-header.field-0.0 ≡ BadForm = grind arith in
+    let m : c.meta_listed.result ≡ Some c.in_ok-meta.meta = grind arith in
+    let n : c.header_at.result ≡ None = grind arith in
+    let end = rw m at c.meta_listed.ensures.end in
+    let header = rw n at (c.header_at.ensures (c.extent_of-body.ensures _ end)) in
+    rw (p.1, p.2, e) (role_headless _ _ no_table keep_timestamp view_timestamp c.args.file.now _ c.in_ok-opened.ensures header)
 
 pub returns-then-not-header : goal.returns-then-not-header
-unfolding timestamp_in read_timestamp timestamp view_timestamp_read view_listed_at view_header
+unfolding timestamp_in read_timestamp timestamp view_header
 returns-then-not-header c =
-    role_headless _ _ no_table keep_timestamp c.args.file.now c.open_envelope-opened.result c.open_envelope-opened.ensures _ _ _ c.if-opened-ne0.false _ _ (c.meta_listed-body.ensures.0 _ _ c.find_member-found.ensures.means)
-    _ _ (c.header_at-header.ensures (c.extent_of.ensures _ c.meta_listed-body.ensures.1)) (not-true _ c.if-not-header.true) c.refused-then-not-header.ensures
-
-pub returns-then-not-header-2 : goal.returns-then-not-header-2
-unfolding timestamp_in read_timestamp timestamp view_timestamp_read view_listed_at view_header
-returns-then-not-header-2 c =
-    role-other _ _ no_table keep_timestamp c.args.file.now c.open_envelope-opened.result c.open_envelope-opened.ensures _ _ _ c.if-opened-ne0.false _ _ (c.meta_listed-body.ensures.0 _ _ c.find_member-found.ensures.means)
-    _ _ (c.header_at-header.ensures (c.extent_of.ensures _ c.meta_listed-body.ensures.1)) (not-false _ c.if-not-body.false) (not-false _ c.if-not-header.false) true (λ v h. refl) refl (not-true _ c.if-not-header-2.true) c.refused-then-not-header-2.ensures
+    let m : c.meta_listed.result ≡ Some c.in_ok-meta.meta = grind arith in
+    let n : c.header_at.result ≡ Some c.in_ok-header.header = grind arith in
+    let meta = rw m at (c.meta_listed.ensures.means _ _ c.find_member-found.ensures.means) in
+    let end = rw m at c.meta_listed.ensures.end in
+    let header = rw n at (c.header_at.ensures (c.extent_of-body.ensures _ end)) in
+    role-other _ _ no_table keep_timestamp view_timestamp c.args.file.now _ c.in_ok-opened.ensures _ meta _ header (λ v h. refl) (not-true _ c.if-not-header.true)
 
 pub returns : goal.returns
-unfolding timestamp_in read_timestamp timestamp view_timestamp_read view_listed_at view_header view_timestamp keep_timestamp
+unfolding timestamp_in read_timestamp timestamp view_timestamp keep_timestamp view_header
 returns c =
-    role-says _ _ no_table keep_timestamp c.args.file.now c.open_envelope-opened.result c.open_envelope-opened.ensures _ _ _ c.if-opened-ne0.false _ _ (c.meta_listed-body.ensures.0 _ _ c.find_member-found.ensures.means)
-    _ _ (c.header_at-header.ensures (c.extent_of.ensures _ c.meta_listed-body.ensures.1)) (not-false _ c.if-not-body.false) (not-false _ c.if-not-header.false) true (λ v h. refl) refl (not-false _ c.if-not-header-2.false) refl (λ spec. refl) refl
+    let m : c.meta_listed.result ≡ Some c.in_ok-meta.meta = grind arith in
+    let n : c.header_at.result ≡ Some c.in_ok-header.header = grind arith in
+    let meta = rw m at (c.meta_listed.ensures.means _ _ c.find_member-found.ensures.means) in
+    let end = rw m at c.meta_listed.ensures.end in
+    let header = rw n at (c.header_at.ensures (c.extent_of-body.ensures _ end)) in
+    role-says _ _ no_table keep_timestamp view_timestamp c.args.file.now _ c.in_ok-opened.ensures _ meta _ header (λ v h. refl) (not-false _ c.if-not-header.false) _ (λ spec. refl) refl

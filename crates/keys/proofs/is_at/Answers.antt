@@ -1,9 +1,0 @@
--- `is_at`: both tests, in their order.
-use mathlib.Core.Path.{sym, ◌∙◌}
-use Rattle.keys.proofs.is_at.Goals as goal
-
-pub returns-then-not-in_role : goal.returns-then-not-in_role
-returns-then-not-in_role c = simp (sym c.in_role.ensures ∙ c.if-not-in_role.true)
-
-pub returns : goal.returns
-returns c = simp (sym c.in_role.ensures ∙ c.if-not-in_role.false, c.same_id.ensures)

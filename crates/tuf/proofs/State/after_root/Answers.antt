@@ -1,0 +1,28 @@
+-- What decides a root: the ways out of a step that reads a file.
+use mathlib.Core.Path.{refl, sym, ◌∙◌}
+use Rattle.rules.specs.Steps.{answer, a_root, trusting, offered, started}
+use Rattle.envelope.proofs.ReadLaws.{read-says, read-judged}
+use Rattle.records.specs.View.{view_root}
+use Rattle.tuf.specs.View.{view}
+use Rattle.tuf.proofs.StepLaws.{unread, held_back, let_in, root-after}
+use Rattle.tuf.proofs.State.after_root.Goals as goal
+
+pub returns-in_err-read : goal.returns-in_err-read
+unfolding answer offered started
+returns-in_err-read c =
+    unread _ _ _ _ a_root refl refl refl _ (read-judged view_root _ _ c.in_err-read.ensures _) _ c.from_residual.ensures.1
+
+pub returns-in_err-judge_root : goal.returns-in_err-judge_root
+unfolding answer offered started view
+returns-in_err-judge_root c =
+    let y = read-says view_root _ _ c.in_ok-read.ensures in
+    let j = c.in_err-judge_root in
+    held_back _ _ _ _ a_root refl refl refl _ _ y _ (j.ensures _ refl refl) j.field-0.0 refl _ c.from_residual-in_err-judge_root.ensures.1
+
+pub returns : goal.returns
+unfolding answer offered started view
+returns c =
+    let y = read-says view_root _ _ c.in_ok-read.ensures in
+    let j = c.in_ok-judge_root in
+    let w = c.with_root in
+    let_in _ _ _ _ a_root refl refl refl _ _ y _ (j.ensures _ refl refl) refl _ (λ z. w.ensures ∙ root-after _ _ _ _ z)
