@@ -13,7 +13,7 @@ use Rattle.std.specs.Option.{ok_or}
 use Rattle.base.specs.Bytes.{Bytes, bytes}
 use Rattle.canonical_json.specs.Json.{Json, Members, put, Canonical, max_depth}
 use Rattle.canonical_json.specs.Fields.{members, lookup, field, place_of}
-use Rattle.lookup.specs.Place.{Stands, PlaceOf, Takes, FindsMember}
+use Rattle.lookup.specs.Place.{Stands, Takes, FindsMember}
 use Rattle.rules.specs.Limits.{max_file}
 use Rattle.rules.specs.Take.{◌>>=◌, must}
 use Rattle.base.proofs.TestLaws.{never}

@@ -14,7 +14,7 @@ use Rattle.canonical_json.specs.Read.{got, read, raw}
 use Rattle.canonical_json.specs.Fields.{field, members, lookup, text, keep}
 use Rattle.canonical_json.proofs.Rfc.{to_rfc}
 use Rattle.canonical_json.proofs.Complete.{complete-object}
-use Rattle.std.specs.declared.option.Option.TheVariants.{None, Some}
+use Rattle.std.specs.declared.option.Option.TheVariants.{Some}
 use Rattle.lookup.proofs.StandsLaws.{takes_of, ends_of}
 use Rattle.rules.specs.Limits.{key_size, signature_size}
 use Rattle.rules.specs.Take.{must, hex, unhex}

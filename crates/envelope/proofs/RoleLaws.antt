@@ -11,13 +11,12 @@ use Prim.Native.Nat.{ℕ}
 use lib.Dec.{leb}
 use lib.IntN.{ℤ}
 use lib.ListN.{length}
-use Rattle.std.specs.declared.result.Result.{Result}
 use Rattle.std.specs.declared.result.Result.TheVariants.{Ok, Err}
 use Rattle.base.specs.Bytes.{Bytes}
 use Rattle.canonical_json.specs.Json.{Json}
 use Rattle.lookup.specs.Place.{Takes, Tests}
 use Rattle.rules.specs.Limits.{max_file}
-use Rattle.rules.specs.Records.{File, too_long, not_text, bad_form, other_keyid, other_spec, Read, refused, says}
+use Rattle.rules.specs.Records.{File, too_long, bad_form, other_keyid, other_spec, Read, refused, says}
 use Rattle.rules.specs.Forms.{Envelope, envelope, known_spec, file_of}
 use Rattle.rules.specs.Reading.{parsed, judged_text, read_with, keyids_of, opened, read_envelope, known, spoken, in_envelope, read_as}
 use Rattle.rules.specs.State.{kept}

@@ -1,5 +1,5 @@
 -- What an opened file says, and a role's file when it is read.
-use Rattle.std.specs.Prelude.{◌≡◌, [], ℕ, length}
+use Rattle.std.specs.Prelude.{◌≡◌, [], length}
 use Rattle.std.specs.declared.option.Option.{Option}
 use Rattle.std.specs.declared.option.Option.TheVariants.{None, Some}
 use Rattle.std.specs.declared.result.Result.{Result}

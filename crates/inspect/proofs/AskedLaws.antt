@@ -13,7 +13,7 @@ use Rattle.rules.specs.Take.{must, each}
 use Rattle.rules.specs.Records.{Entry}
 use Rattle.rules.specs.Forms.{Envelope, entry, entries, envelope}
 use Rattle.rules.specs.Reading.{read_envelope}
-use Rattle.rules.specs.Asked.{EntryAsked, no_entry, nth, the_entry, entry_in, entry_at}
+use Rattle.rules.specs.Asked.{no_entry, nth, the_entry, entry_in, entry_at}
 use Rattle.rules.proofs.OptionLaws.{none-not-some, some_is, had, kept-is}
 use Rattle.rules.proofs.ReadingLaws.{parsed-exactly, envelope_of}
 use Rattle.rules.specs.Steps.{fault_number}

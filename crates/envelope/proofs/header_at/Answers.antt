@@ -1,5 +1,5 @@
 -- `header_at` meets its contract.
-use mathlib.Core.Path.{sym, ap, ◌∙◌}
+use mathlib.Core.Path.{ap, ◌∙◌}
 use Rattle.std.specs.Option.{option_map}
 use Rattle.rules.specs.Forms.{version}
 use Rattle.envelope.specs.Header.{view_header}

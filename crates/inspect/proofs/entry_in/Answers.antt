@@ -1,6 +1,5 @@
 -- `entry_in` meets its contract: digits stand at the places of an entry that was read, so that they are undone.
-use mathlib.Core.Path.{sym, ap, ◌∙◌}
-use Rattle.std.specs.Option.{option_map}
+use mathlib.Core.Path.{sym, ◌∙◌}
 use Rattle.rules.specs.Limits.{key_size, signature_size}
 use Rattle.rules.specs.Asked.{the_entry}
 use Rattle.rules.proofs.OptionLaws.{none-not-some, some_is}

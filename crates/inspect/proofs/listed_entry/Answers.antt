@@ -1,7 +1,6 @@
 -- `listed_entry` meets its contract.
 use mathlib.Core.Path.{ap, ◌∙◌}
 use Rattle.std.proofs.lemmas.Result.{err_from_is_err_and}
-use Rattle.answers.specs.Number.{refusal_number}
 use Rattle.rules.specs.Asked.{no_entry}
 use Rattle.envelope.proofs.ReadLaws.{was-some, was-none}
 use Rattle.inspect.specs.View.{view_asked}

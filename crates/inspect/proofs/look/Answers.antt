@@ -1,5 +1,4 @@
 -- `look` meets its contract: a refusal gives zeros.
-use mathlib.Core.Path.{sym, ap, ◌∙◌}
 use Rattle.inspect.specs.View.{view_look, view_looked, no_look}
 use Rattle.inspect.proofs.look.Goals as goal
 
