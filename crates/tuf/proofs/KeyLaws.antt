@@ -21,8 +21,11 @@ use Rattle.rules.specs.Records as rules
 use Rattle.rules.specs.Asked.{public_key}
 use Rattle.rules.proofs.OptionLaws.{none-not-some, not-absent, some_is, kept-is}
 use Rattle.rules.proofs.ExactlyLaws.{good-key, key-given, no_key_lem}
-use Rattle.answers.specs.Number.{number_of}
+use Rattle.answers.specs.Number.{number_of, refusal_number}
+use Rattle.std.specs.Option.{ok_or}
+use Rattle.std.specs.Result.{IsErrAnd}
 use Rattle.answers.specs.declared.Refusal as answers
+use Rattle.answers.specs.declared.Refusal.TheVariants.{NotListed}
 use Rattle.answers.proofs.MostLaws.{positive}
 use Rattle.records.specs.View.{view_id, view_root}
 use Rattle.records.specs.declared.Id.{Id}
@@ -98,6 +101,20 @@ module _ (self : State) (k : Bytes) where
             let x = there _ p (subst (λ (p : Option Id). Asked (key_of (undo k) held.0.keys) p) e asked) in
             let g : KeyGood (view self) k x.0 = record { root = held.0; root_held = held.1; hex = digits; listed = x.1 } in
             (good-key (view self) k x.0 g, x.2 ∙ sym (key-given (view self) k x.0 g))
+
+        -- what the root says
+        pub key-told : (d : Result Id answers.Refusal) → d ≡ ok_or public NotListed → DecidesKey self k d
+        key-told d q = go public refl
+          where
+            go : (o : Option Id) → public ≡ o → DecidesKey self k d
+            go None e = subst (DecidesKey self k) (sym (rw e at q)) (key-unknown e)
+            go (Some p) e = subst (DecidesKey self k) (sym (rw e at q)) (key-known p e)
+
+  -- a refusal, told on as d
+  pub key-refused : (n : ℕ) → answer (view self) (ask_key k) ≡ n → (e : answers.Refusal) → refusal_number e ≡ n → (d : Result Id answers.Refusal)
+      → IsErrAnd d (λ r. r ≡ e) → DecidesKey self k d
+  key-refused n a e q (Ok p) x = absurd x
+  key-refused n a e q (Err r) x = a ∙ sym q ∙ ap refusal_number (sym x)
 
 -- what is handed back of it
 pub key-of : (self : State) (k : Bytes) (d : Result Id answers.Refusal) → DecidesKey self k d → (r : PublicKey)

@@ -319,8 +319,14 @@ fn no_image(why: Refusal, compared: usize) -> Image
 fn given(key: Result<Id, Refusal>) -> PublicKey
     ensures { Gives key result }
 {
-    PublicKey {
-        answer: key.map(|_| ()),
-        public: key.unwrap_or(Id { bytes: [0u8; 32] }),
+    match key {
+        Ok(public) => PublicKey {
+            answer: Ok(()),
+            public,
+        },
+        Err(why) => PublicKey {
+            answer: Err(why),
+            public: Id { bytes: [0u8; 32] },
+        },
     }
 }
