@@ -13,15 +13,15 @@ use Rattle.canonical_json.specs.Json.{Json, jnull, jtrue, jfalse, num, str, arr,
 use Rattle.canonical_json.specs.Read.{NoDigit}
 use Rattle.canonical_json.specs.Fields.{items}
 use Rattle.canonical_json.proofs.Puts.{put-arr, items-nil, items-cons, more-items-nil, more-items-cons}
-use Rattle.lookup.specs.Place.{Stands, EndsAt, KnownEnd}
+use Rattle.lookup.specs.Place.{Stands, EndsAt, KnownEnd, EndsBy}
 use Rattle.lookup.specs.Walk.{closes, opens, Opens, ItemsLeft, items-end, items_at, ItemsOf, ElementAfter, Follows, NextElement}
 use Rattle.std.specs.declared.option.Option.{Option}
-use Rattle.std.specs.declared.option.Option.TheVariants.{Some}
+use Rattle.std.specs.declared.option.Option.TheVariants.{None, Some}
 use Rattle.lookup.specs.declared.Element.{Element}
 use Rattle.lookup.specs.declared.Element.TheVariants.{NoArray, End, At}
 use Rattle.canonical_json.proofs.Deeper.{deeper}
 use Rattle.lookup.proofs.FirstByte.{begins_with, begins, not-closing}
-use Rattle.lookup.proofs.StandsLaws.{there, front, rest_at, end_is}
+use Rattle.lookup.proofs.StandsLaws.{there, front, rest_at, end-found, end_is, place_after}
 
 -- ## Brackets
 
@@ -65,6 +65,26 @@ module _ (start close p : ℕ) where
     pub open_here : p < length s → get_or s p 0 ≡ start → opens start close p (drop p s) ≡ closes close (p + 1 + 1) (p + 1) (drop (p + 1) s)
     open_here h e = rw (at-cons s p h, e) (opens-on (drop (p + 1) s))
 
+    -- the ways out of `opened`
+    pub opened_cut : length s ≤ p → Opens s p start close NoArray
+    opened_cut h = record { is = sym (open_cut h); onward = tt }
+
+    module _ (h : p < length s) where
+      pub opened_not : (get_or s p 0 ≡ start → ⊥) → Opens s p start close NoArray
+      opened_not e = record { is = sym (open_not h e); onward = tt }
+
+      module _ (e : get_or s p 0 ≡ start) where
+        pub opened_end : length s ≤ p + 1 → Opens s p start close NoArray
+        opened_end k = record { is = sym (open_here h e ∙ close-cut close (p + 1 + 1) (p + 1) s (p + 1) k); onward = tt }
+
+        pub opened_none : p + 1 < length s → get_or s (p + 1) 0 ≡ close → Opens s p start close (End (p + 1 + 1))
+        opened_none k f = record { is = sym (open_here h e ∙ close-here close (p + 1 + 1) (p + 1) s (p + 1) k f); onward = (omega arith, omega arith) }
+
+        pub opened_some : p + 1 < length s → (get_or s (p + 1) 0 ≡ close → ⊥) → Opens s p start close (At (p + 1))
+        opened_some k f = record { is = sym (open_here h e ∙ close-later close (p + 1 + 1) (p + 1) s (p + 1) k f); onward = (omega arith, omega arith) }
+
+pub ruleset opened_rules = (opened_cut, opened_not, opened_end, opened_none, opened_some)
+
 -- a value that does not begin with the opening byte
 pub opens-no : (s : Bytes) (p : ℕ) (v : Json) → Stands s p v → (start close : ℕ) → is_digit start ≡ false → begins_with start v ≡ false → opens start close p (drop p s) ≡ NoArray
 opens-no s p v h start close n e =
@@ -77,6 +97,25 @@ pub follows_by : (s : Bytes) (p close : ℕ) {f : Option ℕ} → EndsAt s p f �
 follows_by s p close w e q r k v h =
     k ∙ ap (λ (n : ℕ). closes close (n + 1) (n + 1) (drop n s)) (end_is s p v h w e q)
     ∙ ap (λ (t : Bytes). closes close (length s - length h.rest + 1) (length s - length h.rest + 1) t) (rest_at s p v h)
+
+-- the ways out of `following`
+module _ (s : Bytes) (p close : ℕ) (f r : Option ℕ) (w : EndsBy s p f r) where
+  pub following_none : r ≡ None → Follows s p close f NoArray
+  following_none q = record { means = λ k v h. absurd (end-found s p v h (w.means k) q); onward = tt }
+
+  module _ (e : ℕ) (q : r ≡ Some e) where
+    pub following_cut : length s ≤ e → Follows s p close f NoArray
+    following_cut h = record { means = λ k. follows_by s p close (w.means k) e q NoArray (sym (close-cut close _ _ s e h)); onward = tt }
+
+    pub following_end : e < length s → get_or s e 0 ≡ close → Follows s p close f (End (e + 1))
+    following_end h b =
+        let a = place_after s p r w.onward e q in
+        record { means = λ k. follows_by s p close (w.means k) e q _ (sym (close-here close _ _ s e h b)); onward = (omega (arith, a.0), omega arith) }
+
+    pub following_at : e < length s → (get_or s e 0 ≡ close → ⊥) → Follows s p close f (At (e + 1))
+    following_at h b =
+        let a = place_after s p r w.onward e q in
+        record { means = λ k. follows_by s p close (w.means k) e q _ (sym (close-later close _ _ s e h b)); onward = (omega (arith, a.0), omega arith) }
 
 -- where the next element begins
 closes-place : (close past j : ℕ) (t : Bytes) (i : ℕ) → closes close past j t ≡ At i → i ≡ j
@@ -105,10 +144,6 @@ pub follows_place : (s : Bytes) (j close : ℕ) {f : Option ℕ} (r : Element) �
 follows_place s j close r w k i q v h = closes-place close _ (length s - length h.rest + 1) h.rest i (sym (w.means k v h) ∙ q)
 
 -- ## Elements
-
--- an end that was found
-pub closed_after : (s : Bytes) (p : ℕ) (r : Element) → ElementAfter s p r → (e : ℕ) → r ≡ End e → (p < e) × (e ≤ length s)
-closed_after s p r a e q = rw q at a
 
 -- an element that was found
 pub element-after : (s : Bytes) (p : ℕ) (r : Element) → ElementAfter s p r → (i : ℕ) → r ≡ At i → (p < i) × (i ≤ length s)

@@ -13,14 +13,14 @@ use Rattle.canonical_json.specs.Read.{raw, NoDigit}
 use Rattle.canonical_json.specs.Fields.{members}
 use Rattle.canonical_json.proofs.Puts.{put-str, put-obj, members-nil, members-cons, more-members-nil, more-members-cons}
 use Rattle.lookup.specs.Place.{Stands, EndsAt, KnownEnd}
-use Rattle.lookup.specs.Walk.{closes, opens, Opens, Follows, MemberAt, MemberAfter, NameAt, MembersLeft, members-end, members-at, MembersOf}
+use Rattle.lookup.specs.Walk.{closes, opens, Opens, Follows, ElementAfter, MemberAt, MemberAfter, NameAt, MembersLeft, members-end, members-at, MembersOf, MemberBy, by-none, by_end, by-at, FirstMember, NextMemberBy}
 use Rattle.lookup.specs.declared.Element.{Element}
 use Rattle.lookup.specs.declared.Element.TheVariants as element
 use Rattle.lookup.specs.declared.Member.{Member}
 use Rattle.lookup.specs.declared.Member.TheVariants as member
 use Rattle.canonical_json.proofs.Deeper.{deeper}
 use Rattle.lookup.proofs.StandsLaws.{there, rest_at, end-found, end_is, place_after}
-use Rattle.lookup.proofs.ItemLaws.{closes-end, closes-on, opens-on, opens-no}
+use Rattle.lookup.proofs.ItemLaws.{closes-end, closes-on, opens-on, opens-no, opens-place, follows_place}
 use Rattle.lookup.proofs.StringLaws.{raw-bytes}
 
 -- ## One member
@@ -30,9 +30,6 @@ abbrev MemberText : Bytes → Json → Members → Bytes → Bytes
 MemberText n v ms rest = put_str n (58 ∷ put v (put_more_members ms (125 ∷ rest)))
 
 module _ (s : Bytes) (i : ℕ) (n : Bytes) (v : Json) (ms : Members) (rest : Bytes) (t : drop i s ≡ MemberText n v ms rest) (g : ValidMembers (mcons n v ms) max_depth) where
-  pub quote-cut : length s ≤ i → ⊥
-  quote-cut l = let k = (there s i 34 _ t).0 in omega arith
-
   -- the name is a string that stands before its colon
   pub name-stands : Stands s i (str n)
   unfolding Valid
@@ -55,6 +52,20 @@ module _ (s : Bytes) (i : ℕ) (n : Bytes) (v : Json) (ms : Members) (rest : Byt
 
 pub name-after : (s : Bytes) (i : ℕ) (r : Option ℕ) → EndsAt s i r → (e : ℕ) → r ≡ Some e → e < length s → MemberAfter s i (member.At (i + 1) (e + 1))
 name-after s i r w e q h = let k = place_after s i r w.onward e q in (omega arith, omega (arith, k.0), omega arith)
+
+-- the ways out of `member_at`
+module _ (s : Bytes) (i : ℕ) (r : Option ℕ) (w : EndsAt s i r) where
+  pub member_none : r ≡ None → MemberAt s i member.NoObject
+  member_none q = record { means = λ n v ms rest t g. absurd (name-found s i n v ms rest t g r w q); onward = tt; place = tt }
+
+  module _ (e : ℕ) (q : r ≡ Some e) where
+    pub member_cut : length s ≤ e → MemberAt s i member.NoObject
+    member_cut h = record { means = λ n v ms rest t g. absurd (colon-cut s i n v ms rest t g r w e q h); onward = tt; place = tt }
+
+    pub member_found : e < length s → MemberAt s i (member.At (i + 1) (e + 1))
+    member_found h = record { means = λ n v ms rest t g. member-there s i n v ms rest t g r w e q; onward = name-after s i r w e q h; place = refl }
+
+pub ruleset member_rules = (member_none, member_cut, member_found)
 
 -- a member that was found
 pub member-after : (s : Bytes) (p : ℕ) (r : Member) → MemberAfter s p r → (i j : ℕ) → r ≡ member.At i j → (p < i) × (i < j) × (j ≤ length s)
@@ -109,12 +120,6 @@ data MembersOpen (s rest : Bytes) : Element → Option Members → Type 0 where
   open_at : {i : ℕ} {n : Bytes} {v : Json} {ms : Members} → drop i s ≡ MemberText n v ms rest → ValidMembers (mcons n v ms) max_depth
       → MembersOpen s rest (element.At i) (Some (mcons n v ms))
 
--- what the program makes of it
-pub data MemberBy (s : Bytes) : Element → Member → Type 0 where
-  by-none : MemberBy s element.NoArray member.NoObject
-  by_end : {e : ℕ} → MemberBy s (element.End e) (member.End e)
-  by-at : {i : ℕ} {r : Member} → MemberAt s i r → MemberBy s (element.At i) r
-
 members-by : {s rest : Bytes} {r : Member} {e : Element} {o : Option Members} → MembersOpen s rest e o → MemberBy s e r → MembersOf s rest r o
 members-by open_none by-none = refl
 members-by (open_end t) by_end = members-end t
@@ -159,9 +164,32 @@ module _ (s : Bytes) (p : ℕ) where
           let k : r ≡ element.At (e + 1) = w.means known v h ∙ ap (λ (x : Bytes). closes 125 (e + 1) (e + 1) x) c ∙ closes-on 125 _ (e + 1) 44 _ refl in
           rw k (open_at (there s e 44 _ (rest_at s p v h ∙ c)).2 (g.2.1, g.2.2, g.2.3))
 
-  pub first_by : {e : Element} {r : Member} → Opens s p 123 125 e → MemberBy s e r → (v : Json) (h : Stands s p v) → MembersOf s h.rest r (members v)
-  first_by o b v h = members-by (first-members o v h) b
+-- ## The member that a bracket or a comma leads to
 
-  pub next-by : {f : Option ℕ} {e : Element} {r : Member} → Follows s p 125 f e → MemberBy s e r → KnownEnd s p f
-      → {rest : Bytes} (i : ℕ) (n : Bytes) (v : Json) (ms : Members) → MembersLeft s rest (member.At i p) (mcons n v ms) → MembersLeft s rest r ms
-  next-by w b known i n v ms l = members-by (next-members w known i n v ms l) b
+by-after : (s : Bytes) (p : ℕ) {e : Element} {r : Member} → MemberBy s e r → ElementAfter s p e → MemberAfter s p r
+by-after s p by-none a = tt
+by-after s p by_end a = a
+by-after s p (by-at {i} {r} m) a = after-later s p i a.0 r m.onward
+
+by-name : (s : Bytes) (p : ℕ) {e : Element} {r : Member} → MemberBy s e r → ((i : ℕ) → e ≡ element.At i → i ≡ p + 1) → NameAt r (p + 1 + 1)
+by-name s p by-none k = tt
+by-name s p by_end k = tt
+by-name s p (by-at {i} {r} m) k = name-later r m.place (k i refl)
+
+module _ (s : Bytes) (p : ℕ) where
+  pub first_by : {e : Element} {r : Member} → Opens s p 123 125 e → MemberBy s e r → FirstMember s p r
+  first_by o b = record {
+    means = λ v h. members-by (first-members s p o v h) b;
+    onward = by-after s p b o.onward;
+    place = by-name s p b (opens-place s p 123 125 o);
+  }
+
+  pub next-by : {f : Option ℕ} {e : Element} {r : Member} → Follows s p 125 f e → MemberBy s e r → NextMemberBy s p f r
+  next-by {e = e} w b = record {
+    means = λ k. record {
+      means = λ i n v ms l. members-by (next-members s p w k i n v ms l) b;
+      onward = by-after s p b w.onward;
+      place = λ v h. by-name s (length s - length h.rest) b (λ i q. follows_place s p 125 e w k i q v h);
+    };
+    onward = by-after s p b w.onward;
+  }

@@ -10,6 +10,7 @@ use native.Mathlib.Omega.{arith}
 use lib.Dec.{leb}
 use lib.ListN.{length, drop, get_or}
 use borrow.Author.Tests.{le-leb, lt-leb}
+use Rattle.std.proofs.lemmas.List.{take_rest}
 use Rattle.base.specs.Bytes.{Bytes, is_digit}
 use Rattle.base.proofs.PlaceLaws.{at-cons, at-end}
 use Rattle.base.proofs.TestLaws.{both}
@@ -76,6 +77,16 @@ module _ (hi : ℕ) (t : Bytes) where
   unfolding leading_to
   leading-over h = sym (dropped _ (leading 0 t) (lt-leb (leading 0 t) hi h))
 
+  -- n before the digit at i, which takes it past hi
+  pub digits-over : (i n d : ℕ) → i < length t → is_digit (get_or t i 0) ≡ true → leading 0 t ≡ leading n (drop i t) → d ≡ get_or t i 0 - 48 → hi < n * 10 + d → None ≡ leading_to hi t
+  digits-over i n d h f e q o =
+      let on = e ∙ digits-next t i n h f in
+      let more = leading_grows (drop (i + 1) t) (n * 10 + (get_or t i 0 - 48)) in
+      leading-over (omega arith)
+
+-- what the check of `digits` may use
+pub ruleset digits_rules = (digits-spent, digits-end, digits-next, leading-is, digits-over)
+
 module _ (lo hi : ℕ) (s : Bytes) (p : ℕ) where
   pub number_cut : length s ≤ p → None ≡ number_in lo hi (drop p s)
   unfolding number_in
@@ -115,6 +126,9 @@ module _ (lo hi : ℕ) (s : Bytes) (p : ℕ) where
           let m : n ≡ x = w.1 in
           let k : leb lo x ≡ true = le-leb lo x (omega arith) in
           ap Some m ∙ sym (number_is ∙ kept _ x (rw k w.0))
+
+-- what the check of `number_at` may use
+pub ruleset number_rules = (number_cut, number-not, number-over, number-low, number-within, take_rest)
 
 -- ## The number of a value
 

@@ -13,9 +13,9 @@ use Rattle.canonical_json.specs.Fields.{members, field, place_from}
 use Rattle.lookup.specs.Place.{Stands, PlaceOf, FindsMember, note}
 use Rattle.lookup.specs.Walk.{FirstMember, NextMember}
 use Rattle.lookup.specs.declared.Member.{Member}
-use Rattle.lookup.specs.declared.Member.TheVariants.{NoObject, End, At}
-use Rattle.lookup.proofs.LookupLaws.{Sought, sought_first, sought_none, sought_end, sought_here, sought_next}
-use Rattle.lookup.proofs.PlacedLaws.{Placed, placed_first, placed-none, placed_end, placed-here, placed-next}
+use Rattle.lookup.specs.declared.Member.TheVariants.{End, At}
+use Rattle.lookup.proofs.LookupLaws.{Sought, sought_first, sought_end, sought_here, sought_next}
+use Rattle.lookup.proofs.PlacedLaws.{Placed, placed_first, placed_end, placed-here, placed-next}
 
 -- ## One name of several
 
@@ -31,6 +31,9 @@ module _ (b : Bool) (x : ℕ) (f : Option ℕ) where
   pub note-before : (y : ℕ) → f ≡ Some y → Some y ≡ note b x f
   unfolding note
   note-before y q = rw q refl
+
+-- what the check of `noted` may use
+pub ruleset note_rules = (note-here, note-other, note-before)
 
 -- f was found of the name k, or the members left at m decide
 abbrev pub Noted : Bytes → Bytes → Member → Option ℕ → Option Json → Option ℕ → Type 0
@@ -52,9 +55,6 @@ module _ (s : Bytes) (p : ℕ) (k : Bytes) (m : Member) where
     finds : ((o : Option Json) → Sought s k m o → o ≡ None) → ((q : Option ℕ) → Placed s k m q → None ≡ q) → (f : Option ℕ) → Seeks s p k m f → FindsMember s p k f
     finds a b None w = record { means = λ v h. a _ (w v h).0; place = λ v h. b _ (w v h).1 }
     finds a b (Some x) w = record { means = λ v h. (w v h).0; place = λ v h. (w v h).1 }
-
-    pub seeks_none : m ≡ NoObject → FindsMember s p k f
-    seeks_none q = finds (λ o t. sought_none s k m o t q) (λ o t. placed-none s k m o t q) f w
 
     pub seeks_end : (e : ℕ) → m ≡ End e → FindsMember s p k f
     seeks_end e q = finds (λ o t. sought_end s k m o t e q) (λ o t. placed_end s k m o t e q) f w

@@ -16,8 +16,7 @@ use Rattle.std.specs.declared.option.Option.TheVariants.{None, Some}
 use Rattle.canonical_json.specs.Read.{got, read}
 use Rattle.canonical_json.proofs.Slices.{put-split}
 use Rattle.canonical_json.proofs.Complete.{complete}
-use Rattle.skip.specs.Ends.{Ends, EndAfter}
-use Rattle.lookup.specs.Place.{Stands, Takes, PlaceAfter, EndsAt, KnownEnd, FoundEnd, EndsBy}
+use Rattle.lookup.specs.Place.{Stands, Takes, PlaceAfter, EndsAt, KnownEnd, FoundEnd}
 use Rattle.lookup.proofs.FirstByte.{Begins, begins}
 
 -- where a text goes on with a byte, it does
@@ -36,9 +35,6 @@ there s i x t e = go (leb (length s) i) refl
 -- a place that was found
 pub place_after : (s : Bytes) (p : ℕ) (r : Option ℕ) → PlaceAfter s p r → (x : ℕ) → r ≡ Some x → (p < x) × (x ≤ length s)
 place_after s p r a x q = rw q at a
-
-pub end_after : (s : Bytes) (p : ℕ) (r : Option ℕ) → EndAfter s p r → (e : ℕ) → r ≡ Some e → (p < e) × (e ≤ length s)
-end_after s p r a e q = rw q at a
 
 -- the value of a canonical text stands at its beginning, and nothing follows
 pub whole : (s : Bytes) → Canonical max_depth s → (v : Json) × (here : Stands s 0 v) × (here.rest ≡ [])
@@ -74,16 +70,6 @@ module _ (s : Bytes) (p : ℕ) (v : Json) (h : Stands s p v) where
       let m : e - p ≡ length a = omega arith in
       rw (m, split) (take_at a h.rest (length a) refl)
 
-  -- the skip over it
-  module _ {r : Option ℕ} (w : Ends s p r) where
-    pub skip-found : r ≡ None → ⊥
-    skip-found q =
-        let k : None ≡ Some (length s - length h.rest) = sym q ∙ w.means v h.rest h.text h.free h.valid in
-        let z : ◌≡◌ {A = ℕ} 0 1 = cc in omega arith
-
-    pub skip_is : (e : ℕ) → r ≡ Some e → e ≡ length s - length h.rest
-    skip_is e q = let k : Some e ≡ Some (length s - length h.rest) = sym q ∙ w.means v h.rest h.text h.free h.valid in cc
-
   module _ {r : Option ℕ} (w : EndsAt s p r) where
     pub end-found : r ≡ None → ⊥
     end-found q =
@@ -95,40 +81,21 @@ module _ (s : Bytes) (p : ℕ) (v : Json) (h : Stands s p v) where
 
 -- ## Ends that may be known
 
-module _ (s : Bytes) (p : ℕ) (known : Option ℕ) where
-  -- an end that was looked for, whatever is known
-  pub looked_for : (r : Option ℕ) → EndsAt s p r → EndsBy s p known r
-  looked_for r w = record { means = λ k. w; onward = w.onward }
-
-  -- the one that is known
-  pub told : (e : ℕ) → known ≡ Some e → KnownEnd s p known → EndsAt s p (Some e)
-  told e q k = rw q at k
-
 -- an end that was looked for is known
 pub ended : (s : Bytes) (p : ℕ) (r : Option ℕ) → EndsAt s p r → KnownEnd s p r
 ended s p None w = tt
 ended s p (Some e) w = w
-
--- what is known of the value at one place, it is of the value at the same place
-pub known_at : (s : Bytes) (p q : ℕ) (f : Option ℕ) → p ≡ q → KnownEnd s q f → KnownEnd s p f
-known_at s p q f e k = rw (← e) at k
 
 -- where nothing is known
 pub known-none : (s : Bytes) (p : ℕ) (f : Option ℕ) → f ≡ None → KnownEnd s p f
 known-none s p f e = rw e tt
 
 -- a value that was found, by its place
-pub found-end : (s : Bytes) (found end : Option ℕ) (x : ℕ) → found ≡ Some x → FoundEnd s found end → KnownEnd s x end
-found-end s found end x q k = rw q at k
-
 pub end_of-found : (s : Bytes) (found end : Option ℕ) (x : ℕ) → found ≡ Some x → KnownEnd s x end → FoundEnd s found end
 end_of-found s found end x q k = rw q k
 
 pub end_of-none : (s : Bytes) (found end : Option ℕ) → found ≡ None → FoundEnd s found end
 end_of-none s found end q = rw q tt
-
-pub known_as : (s : Bytes) (p : ℕ) (f g : Option ℕ) → f ≡ g → KnownEnd s p g → KnownEnd s p f
-known_as s p f g e k = rw e k
 
 -- ## One value only stands at a place: the one that is read there
 

@@ -8,9 +8,9 @@ use Prim.Native.Nat.{ℕ, ◌≤◌, ◌<◌, ◌+◌}
 use native.Mathlib.Omega.{arith}
 use native.Mathlib.Numerals.{add-one}
 use lib.Dec.{eqb, leb}
-use lib.ListN.{length, drop, take, get_or, set, length-append, length-drop}
+use lib.ListN.{length, drop, take, get_or, set, length-append, length-drop, length-set}
 use lib.Seq.{sets, sets-eq, take_at}
-use borrow.Author.Tests.{eq-eqb, ne_eqb, lt-ltb, le-ltb, le-leb, lt-leb, leb-true, leb-false}
+use borrow.Author.Tests.{eq-eqb, ne_eqb, le-leb, lt-leb, leb-true, leb-false}
 use Rattle.base.specs.Bytes.{Bytes, same, less}
 use Rattle.base.proofs.PlaceLaws.{at-cons, at-end}
 use Rattle.base.proofs.OrderLaws.{less-differs}
@@ -22,7 +22,7 @@ use Rattle.canonical_json.proofs.Puts.{put-str}
 use Rattle.canonical_json.proofs.CharsLaws.{neither}
 use Rattle.lookup.specs.Place.{Stands}
 use Rattle.lookup.specs.Leaves.{string_in, order_of, copied, Copies}
-use Rattle.std.specs.Ordering.{is_lt, is_eq}
+use Rattle.std.specs.Ordering.{is_lt, is_eq, nat_cmp}
 use Rattle.std.specs.declared.cmp.Ordering.TheVariants.{Less, Equal, Greater}
 use Rattle.lookup.proofs.FirstByte.{begins_with}
 use Rattle.lookup.proofs.StandsLaws.{there, front}
@@ -41,6 +41,9 @@ module _ (s : Bytes) (p : ℕ) where
   pub string-here : p < length s → get_or s p 0 ≡ 34 → string_in p (drop p s) ≡ Some (p + 1)
   unfolding string_in
   string-here h e = rw (at-cons s p h, e)
+
+-- what the check of `string_at` may use
+pub ruleset string_rules = (string-cut, string-not, string-here)
 
 -- ## The bytes of a string
 
@@ -141,17 +144,16 @@ module _ (a k : Bytes) (j : ℕ) where
     order_longer h = rw (e, at-end k j h) refl
 
     module _ (h : j < length k) where
-      pub order_below : b < get_or k j 0 → order_of a (drop j k) ≡ Less
-      unfolding order_of less
-      order_below l = rw (e, at-cons k j h, ne_eqb b (get_or k j 0) (λ (q : b ≡ get_or k j 0). omega arith), lt-ltb b (get_or k j 0) l) refl
-
-      pub order_above : get_or k j 0 < b → order_of a (drop j k) ≡ Greater
+      pub order_differ : (b ≡ get_or k j 0 → ⊥) → order_of a (drop j k) ≡ nat_cmp b (get_or k j 0)
       unfolding order_of less same
-      order_above l = rw (e, at-cons k j h, ne_eqb b (get_or k j 0) (λ (q : b ≡ get_or k j 0). omega arith), le-ltb b (get_or k j 0) (omega arith)) refl
+      order_differ n = rw (e, at-cons k j h, ne_eqb b (get_or k j 0) n) refl
 
       pub order_next : b ≡ get_or k j 0 → order_of a (drop j k) ≡ order_of t (drop (j + 1) k)
       unfolding order_of less same
       order_next q = rw (e, at-cons k j h, eq-eqb b (get_or k j 0) q) refl
+
+-- what the check of `text_order` may use
+pub ruleset order_rules = (order_ended, order_prefix, order_longer, order_differ, order_next)
 
 -- what an order says
 module _ (a b : Bytes) where
@@ -214,3 +216,6 @@ module _ (t buffer : Bytes) where
 
   pub copy_done : length t ≤ length buffer → (out : Bytes) (n : ℕ) (left : Bytes) → copied t buffer ≡ sets out n left → left ≡ [] → Copies t buffer true out
   copy_done h out n left e f = record { fits = sym (le-leb (length t) (length buffer) h); is = sym (e ∙ ap (λ (x : Bytes). sets out n x) f) }
+
+-- what the check of `copy_text` may use
+pub ruleset copy_rules = (copied_sets, set_next, copy_refused, copy_done, length-set)

@@ -32,6 +32,9 @@ module _ (s : Bytes) (p : ℕ) where
   unfolding truth_in
   truth-not h e f = rw (at-cons s p h, ne_eqb _ _ e, ne_eqb _ _ f)
 
+-- what the check of `truth_at` may use
+pub ruleset truth_rules = (truth-cut, truth-true, truth-false, truth-not)
+
 pub truth_of : (s : Bytes) (p : ℕ) (v : Json) → Stands s p v → truth_in (drop p s) ≡ truth v
 unfolding truth_in truth
 truth_of s p v h = let b = front s p v h in rw (b.is, b.with 116 refl, b.with 102 refl) (go v)

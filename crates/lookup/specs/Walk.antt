@@ -104,6 +104,12 @@ pub record MemberAt (s : Bytes) (i : ℕ) (r : Member) : Type 0 where
   pub onward : MemberAfter s i r
   pub place : NameAt r (i + 1)
 
+-- the member that an opening brace or a comma leads to: the place behind it is that of a name's opening quote
+pub data MemberBy (s : Bytes) : Element → Member → Type 0 where
+  by-none : MemberBy s element.NoArray member.NoObject
+  by_end : {e : ℕ} → MemberBy s (element.End e) (member.End e)
+  by-at : {i : ℕ} {r : Member} → MemberAt s i r → MemberBy s (element.At i) r
+
 -- `place`: the first name begins past the opening brace and a quote, a later one past the value before it, a comma and a quote
 pub record FirstMember (s : Bytes) (p : ℕ) (r : Member) : Type 0 where
   pub means : (v : Json) (here : Stands s p v) → MembersOf s here.rest r (members v)

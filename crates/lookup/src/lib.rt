@@ -6,7 +6,7 @@ ghost use Rattle.std.specs.Prelude.{◌≡◌, length, drop};
 ghost use Rattle.base.specs.Bytes.{Bytes, same};
 ghost use Rattle.canonical_json.specs.Read.{raw};
 ghost use Rattle.lookup.specs.Place.{EndsAt, KnownEnd, FoundEnd, EndsBy, FindsMember, note, FindsMembers};
-ghost use Rattle.lookup.specs.Walk.{Opens, Follows, FirstElement, NextElement, NextElementBy, MemberAt, FirstMember, NextMember, NextMemberBy};
+ghost use Rattle.lookup.specs.Walk.{Opens, Follows, FirstElement, NextElement, NextElementBy, MemberAt, FirstMember, NextMember, NextMemberBy, MemberBy};
 ghost use Rattle.lookup.specs.Leaves.{string_in, order_of, Copies, leading_to, number_in, truth_in};
 
 use std::cmp::Ordering;
@@ -15,14 +15,7 @@ use std::cmp::Ordering;
 pub fn value_end(s: &[u8], at: usize) -> Option<usize>
     ensures { EndsAt s.now at result }
 {
-    match skip::value(s, at) {
-        None => {
-            return None;
-        }
-        Some(e) => {
-            return Some(e);
-        }
-    }
+    skip::value(s, at)
 }
 
 // The same, where a reader of the value may have told its end.
@@ -30,18 +23,8 @@ fn end_by(s: &[u8], at: usize, known: Option<usize>) -> Option<usize>
     ensures { EndsBy s.now at known result }
 {
     match known {
-        None => {
-            return value_end(s, at);
-        }
-        Some(e) => {
-            if e <= at {
-                return value_end(s, at);
-            }
-            if s.len() < e {
-                return value_end(s, at);
-            }
-            return Some(e);
-        }
+        Some(e) if at < e && e <= s.len() => Some(e),
+        _ => value_end(s, at),
     }
 }
 
@@ -56,43 +39,35 @@ pub enum Element {
 }
 
 // What follows the opening byte at `at`: the closing byte, or the first element or member.
+#[tactic(auto, using(crate::proofs::ItemLaws::opened_rules))]
 fn opened(s: &[u8], at: usize, start: u8, close: u8) -> Element
     ensures { Opens s.now at start close result }
 {
-    if s.len() <= at {
+    let Some(first) = s.get(at) else {
         return Element::NoArray;
-    }
-    if s[at] != start {
+    };
+    if *first != start {
         return Element::NoArray;
     }
     let i = at + 1;
-    if s.len() <= i {
-        return Element::NoArray;
+    match s.get(i) {
+        None => Element::NoArray,
+        Some(b) if *b == close => Element::End(i + 1),
+        Some(_) => Element::At(i),
     }
-    if s[i] == close {
-        return Element::End(i + 1);
-    }
-    Element::At(i)
 }
 
 // What follows the value at `i`, whose end may be known: the closing byte, or a comma and the next element or member.
 fn following(s: &[u8], i: usize, close: u8, end: Option<usize>) -> Element
     ensures { Follows s.now i close end result }
 {
-    match end_by(s, i, end) {
-        None => {
-            return Element::NoArray;
-        }
-        Some(e) => {
-            if s.len() <= e {
-                return Element::NoArray;
-            }
-            let next = e + 1;
-            if s[e] == close {
-                return Element::End(next);
-            }
-            return Element::At(next);
-        }
+    let Some(e) = end_by(s, i, end) else {
+        return Element::NoArray;
+    };
+    match s.get(e) {
+        None => Element::NoArray,
+        Some(b) if *b == close => Element::End(e + 1),
+        Some(_) => Element::At(e + 1),
     }
 }
 
@@ -129,23 +104,27 @@ pub enum Member {
 }
 
 // The member whose name's opening quote stands at `i`.
+#[tactic(auto, using(crate::proofs::MemberLaws::member_rules))]
 fn member_at(s: &[u8], i: usize) -> Member
     ensures { MemberAt s.now i result }
 {
-    if s.len() <= i {
-        return Member::NoObject;
-    }
-    let name = i + 1;
     match value_end(s, i) {
-        None => {
-            return Member::NoObject;
-        }
-        Some(e) => {
-            if s.len() <= e {
-                return Member::NoObject;
-            }
-            return Member::At { name, value: e + 1 };
-        }
+        Some(e) if e < s.len() => Member::At {
+            name: i + 1,
+            value: e + 1,
+        },
+        _ => Member::NoObject,
+    }
+}
+
+// The member that the opening brace or a comma leads to.
+fn member_by(s: &[u8], found: Element) -> Member
+    ensures { MemberBy s.now found result }
+{
+    match found {
+        Element::NoArray => Member::NoObject,
+        Element::End(e) => Member::End(e),
+        Element::At(i) => member_at(s, i),
     }
 }
 
@@ -153,17 +132,7 @@ fn member_at(s: &[u8], i: usize) -> Member
 pub fn first_member(s: &[u8], at: usize) -> Member
     ensures { FirstMember s.now at result }
 {
-    match opened(s, at, b'{', b'}') {
-        Element::NoArray => {
-            return Member::NoObject;
-        }
-        Element::End(e) => {
-            return Member::End(e);
-        }
-        Element::At(i) => {
-            return member_at(s, i);
-        }
-    }
+    member_by(s, opened(s, at, b'{', b'}'))
 }
 
 // The member after the one whose value stands at `value`.
@@ -177,17 +146,7 @@ pub fn next_member(s: &[u8], value: usize) -> Member
 pub fn next_member_by(s: &[u8], value: usize, end: Option<usize>) -> Member
     ensures { NextMemberBy s.now value end result }
 {
-    match following(s, value, b'}', end) {
-        Element::NoArray => {
-            return Member::NoObject;
-        }
-        Element::End(e) => {
-            return Member::End(e);
-        }
-        Element::At(i) => {
-            return member_at(s, i);
-        }
-    }
+    member_by(s, following(s, value, b'}', end))
 }
 
 // A value, by its place, whose end a reader may have told.
@@ -216,12 +175,8 @@ pub fn extent_of(found: Option<usize>, end: Option<usize>) -> Extent
     ensures { (s : Bytes) → FoundEnd s found end → KnownEnd s result.at result.end }
 {
     match found {
-        None => {
-            return no_extent();
-        }
-        Some(at) => {
-            return Extent { at, end };
-        }
+        None => no_extent(),
+        Some(at) => Extent { at, end },
     }
 }
 
@@ -229,10 +184,7 @@ pub fn extent_of(found: Option<usize>, end: Option<usize>) -> Extent
 fn known_end(at: usize, known: Extent) -> Option<usize>
     ensures { (s : Bytes) → KnownEnd s known.at known.end → KnownEnd s at result }
 {
-    if at != known.at {
-        return None;
-    }
-    known.end
+    if at == known.at { known.end } else { None }
 }
 
 // The value of the member of that name, in the object at `at`.
@@ -247,23 +199,13 @@ pub fn find_member_by(s: &[u8], at: usize, name: &[u8], known: Extent) -> Option
     ensures { KnownEnd s.now known.at known.end → FindsMember s.now at name.now result }
 {
     let mut m = first_member(s, at);
-    loop {
-        match m {
-            Member::At { name: n, value: v } => {
-                if text_is(s, n, name) {
-                    return Some(v);
-                }
-                let end = known_end(v, known);
-                m = next_member_by(s, v, end);
-            }
-            Member::NoObject => {
-                return None;
-            }
-            Member::End(_) => {
-                return None;
-            }
+    while let Member::At { name: n, value } = m {
+        if text_is(s, n, name) {
+            return Some(value);
         }
+        m = next_member_by(s, value, known_end(value, known));
     }
+    None
 }
 
 // ---- Several members in one walk
@@ -279,19 +221,14 @@ pub struct Members {
 }
 
 // What was found of that name, once the member is seen whose name is read at `i` and whose value stands at `value`.
+#[tactic(auto, using(crate::proofs::SeveralLaws::note_rules))]
 pub fn noted(s: &[u8], i: usize, value: usize, name: &[u8], found: Option<usize>) -> Option<usize>
     ensures { result ≡ note (same (raw (drop i s.now)) name.now) value found }
 {
-    match found {
-        None => {
-            if text_is(s, i, name) {
-                return Some(value);
-            }
-            return None;
-        }
-        Some(x) => {
-            return Some(x);
-        }
+    if found.is_none() && text_is(s, i, name) {
+        Some(value)
+    } else {
+        found
     }
 }
 
@@ -319,81 +256,57 @@ pub fn find_members_by(
     let mut third = None;
     let mut fourth = None;
     let mut m = first_member(s, at);
-    loop {
-        match m {
-            Member::At { name: n, value: v } => {
-                first = noted(s, n, v, a, first);
-                second = noted(s, n, v, b, second);
-                third = noted(s, n, v, c, third);
-                fourth = noted(s, n, v, d, fourth);
-                let end = known_end(v, known);
-                m = next_member_by(s, v, end);
-            }
-            Member::NoObject => {
-                return Members {
-                    first,
-                    second,
-                    third,
-                    fourth,
-                    end: None,
-                };
-            }
-            Member::End(e) => {
-                return Members {
-                    first,
-                    second,
-                    third,
-                    fourth,
-                    end: Some(e),
-                };
-            }
-        }
+    while let Member::At { name, value } = m {
+        first = noted(s, name, value, a, first);
+        second = noted(s, name, value, b, second);
+        third = noted(s, name, value, c, third);
+        fourth = noted(s, name, value, d, fourth);
+        m = next_member_by(s, value, known_end(value, known));
+    }
+    let end = match m {
+        Member::End(e) => Some(e),
+        _ => None,
+    };
+    Members {
+        first,
+        second,
+        third,
+        fourth,
+        end,
     }
 }
 
 // ---- Strings: `i` stands just past the opening quote; escapes are undone
 
 // Where the string at `at` begins, just past its opening quote.
+#[tactic(auto, using(crate::proofs::StringLaws::string_rules))]
 pub fn string_at(s: &[u8], at: usize) -> Option<usize>
     ensures { result ≡ string_in at (drop at s.now) }
 {
-    if s.len() <= at {
-        return None;
+    match s.get(at)? {
+        b'"' => Some(at + 1),
+        _ => None,
     }
-    if s[at] != b'"' {
-        return None;
-    }
-    Some(at + 1)
 }
 
 // How the string stands to `k`: byte by byte, a shorter prefix first.
+#[tactic(auto, using(crate::proofs::StringLaws::order_rules))]
 pub fn text_order(s: &[u8], i: usize, k: &[u8]) -> Ordering
     ensures { result ≡ order_of (raw (drop i s.now)) k.now }
 {
     let mut p = i;
-    let mut j = 0;
-    loop {
-        match canonical_json::char_at(s, p) {
-            None => {
-                if j == k.len() {
-                    return Ordering::Equal;
-                }
-                return Ordering::Less;
-            }
-            Some((b, next)) => {
-                if k.len() <= j {
-                    return Ordering::Greater;
-                }
-                if b < k[j] {
-                    return Ordering::Less;
-                }
-                if k[j] < b {
-                    return Ordering::Greater;
-                }
-                p = next;
-                j += 1;
-            }
+    for x in k {
+        let Some((b, next)) = canonical_json::char_at(s, p) else {
+            return Ordering::Less;
+        };
+        if b != *x {
+            return b.cmp(x);
         }
+        p = next;
+    }
+    match canonical_json::char_at(s, p) {
+        None => Ordering::Equal,
+        Some(_) => Ordering::Greater,
     }
 }
 
@@ -410,20 +323,15 @@ pub fn text_len(s: &[u8], i: usize) -> usize
 {
     let mut p = skip::bare_end(s, i);
     let mut n = p - i;
-    loop {
-        match canonical_json::char_at(s, p) {
-            None => {
-                return n;
-            }
-            Some((_, next)) => {
-                p = next;
-                n += 1;
-            }
-        }
+    while let Some((_, next)) = canonical_json::char_at(s, p) {
+        p = next;
+        n += 1;
     }
+    n
 }
 
 // Copies the string's bytes to the front of `out`; where they do not fit, `out` stays as it is.
+#[tactic(auto, using(crate::proofs::StringLaws::copy_rules))]
 pub fn copy_text(s: &[u8], i: usize, out: &mut [u8]) -> bool
     ensures { Copies (raw (drop i s.now)) out.old result out.new }
 {
@@ -431,92 +339,53 @@ pub fn copy_text(s: &[u8], i: usize, out: &mut [u8]) -> bool
         return false;
     }
     let mut p = i;
-    let mut n: usize = 0;
-    loop {
-        match canonical_json::char_at(s, p) {
-            None => {
-                return true;
-            }
-            Some((b, next)) => {
-                out[n] = b;
-                p = next;
-                n += 1;
-            }
-        }
+    let mut j = 0;
+    while let Some((b, next)) = canonical_json::char_at(s, p) {
+        out[j] = b;
+        p = next;
+        j += 1;
     }
+    true
 }
 
 // ---- Numbers and truth values
 
-fn wide(b: u8) -> u64
-    ensures { result ≡ b }
-{
-    b as u64
-}
-
-// The number that the digits at `at` write, where it is at most hi. No sum wraps, however many digits there are.
-fn digits(s: &[u8], at: usize, hi: u64) -> Option<u64>
-    ensures { result ≡ leading_to hi (drop at s.now) }
+// The number that the digits in front write, where it is at most hi. No sum wraps, however many digits there are.
+#[tactic(auto, using(crate::proofs::NumberLaws::digits_rules))]
+fn digits(s: &[u8], hi: u64) -> Option<u64>
+    ensures { result ≡ leading_to hi s.now }
 {
     let mut n: u64 = 0;
-    let mut i = at;
-    while i < s.len() {
-        let b = s[i];
-        if b < 48 {
+    for b in s {
+        if !b.is_ascii_digit() {
             return Some(n);
         }
-        if 57 < b {
-            return Some(n);
-        }
-        let d = wide(b - 48);
-        if hi / 10 < n {
+        n = n.checked_mul(10)?.checked_add(u64::from(*b - b'0'))?;
+        if hi < n {
             return None;
         }
-        let m = n * 10;
-        if hi - m < d {
-            return None;
-        }
-        n = m + d;
-        i += 1;
     }
     Some(n)
 }
 
 // The whole number from lo to hi that stands at `at`.
+#[tactic(auto, using(crate::proofs::NumberLaws::number_rules))]
 pub fn number_at(s: &[u8], at: usize, lo: u64, hi: u64) -> Option<u64>
     ensures { result ≡ number_in lo hi (drop at s.now) }
 {
-    if s.len() <= at {
+    if !s.get(at)?.is_ascii_digit() {
         return None;
     }
-    let first = s[at];
-    if first < 48 {
-        return None;
-    }
-    if 57 < first {
-        return None;
-    }
-    match digits(s, at, hi) {
-        None => {
-            return None;
-        }
-        Some(n) => {
-            if n < lo {
-                return None;
-            }
-            return Some(n);
-        }
-    }
+    let n = digits(&s[at..], hi)?;
+    if lo <= n { Some(n) } else { None }
 }
 
 // true or false, where it stands at `at`.
+#[tactic(auto, using(crate::proofs::TruthLaws::truth_rules))]
 pub fn truth_at(s: &[u8], at: usize) -> Option<bool>
     ensures { result ≡ truth_in (drop at s.now) }
 {
-    if s.len() <= at {
-        return None;
-    }
-    match s[at] {
+    match s.get(at)? {
         b't' => Some(true),
         b'f' => Some(false),
         _ => None,

@@ -8,7 +8,7 @@ use Rattle.lookup.specs.Leaves.{copied}
 use Rattle.lookup.proofs.copy_text.Given as goal
 
 abbrev pub invariant-loop-b : goal.invariant-loop-b
-invariant-loop-b l = (l.n + length (raw (drop l.p l.s)) ≤ length l.out) × (length l.out ≡ length l.initial.out) × (copied (raw (drop l.i l.s)) l.initial.out ≡ sets l.out l.n (raw (drop l.p l.s)))
+invariant-loop-b l = (l.j + length (raw (drop l.p l.s)) ≤ length l.out) × (length l.out ≡ length l.initial.out) × (copied (raw (drop l.i l.s)) l.initial.out ≡ sets l.out l.j (raw (drop l.p l.s)))
 
 abbrev pub decreases-loop-b : goal.decreases-loop-b
 decreases-loop-b l = length l.s - l.p

@@ -1,60 +1,21 @@
-use mathlib.Core.Path.{refl, sym, ap, ◌∙◌}
-use Prim.Native.Nat.{ℕ, ◌+◌, ◌-◌, ◌*◌}
+-- What wraps is past hi.
+use mathlib.Core.Path.{refl, ◌∙◌}
 use native.Mathlib.Omega.{arith}
-use lib.ListN.{drop, get_or}
-use Rattle.base.proofs.ByteLaws.{digit, digit_low, digit-high}
-use Rattle.lookup.specs.Leaves.{leading}
-use Rattle.lookup.proofs.NumberLaws as numbers
+use Rattle.base.proofs.ByteLaws.{digit}
+use Rattle.lookup.proofs.NumberLaws.{digits-over}
 use Rattle.lookup.proofs.digits.Goals as goal
 
-pub loop-i-init : goal.loop-i-init
-loop-i-init c = (omega arith, refl)
+pub returns-in_err-checked_mul : goal.returns-in_err-checked_mul
+returns-in_err-checked_mul c =
+    let d = c.if-not-is_ascii_digit.ensures.cases in
+    let o = c.in_err-checked_mul.ensures in
+    let f = c.ranges.hi.fits in
+    c.from_residual.ensures ∙ digits-over _ _ _ _ _ c.loop-b-test.true (digit _ d.0 d.1) c.loop-b.invariant.1 refl (omega arith)
 
-pub returns-then-b-lt48 : goal.returns-then-b-lt48
-returns-then-b-lt48 c =
-    let a = c.args in
-    let s = a.s.now in
-    let l = c.loop-i in
-    numbers.leading-is a.hi _ l.n (l.invariant.1 ∙ numbers.digits-end s l.i l.n c.loop-i-test.true (digit_low _ c.if-b-lt48.true)) l.invariant.0
-
-pub returns-then-b-gt57 : goal.returns-then-b-gt57
-returns-then-b-gt57 c =
-    let a = c.args in
-    let s = a.s.now in
-    let l = c.loop-i in
-    numbers.leading-is a.hi _ l.n (l.invariant.1 ∙ numbers.digits-end s l.i l.n c.loop-i-test.true (digit-high _ c.if-b-gt57.true)) l.invariant.0
-
-pub returns-then-hi-n : goal.returns-then-hi-n
-returns-then-hi-n c =
-    let a = c.args in
-    let s = a.s.now in
-    let l = c.loop-i in
-    let on = l.invariant.1 ∙ numbers.digits-next s l.i l.n c.loop-i-test.true (digit (get_or s l.i 0) c.if-b-lt48.false c.if-b-gt57.false) in
-    let more = numbers.leading_grows (drop (l.i + 1) s) (l.n * 10 + (get_or s l.i 0 - 48)) in
-    numbers.leading-over a.hi _ (omega arith)
-
-pub returns-then-hi-m : goal.returns-then-hi-m
-returns-then-hi-m c =
-    let a = c.args in
-    let s = a.s.now in
-    let l = c.loop-i in
-    let on = l.invariant.1 ∙ numbers.digits-next s l.i l.n c.loop-i-test.true (digit (get_or s l.i 0) c.if-b-lt48.false c.if-b-gt57.false) in
-    let more = numbers.leading_grows (drop (l.i + 1) s) (l.n * 10 + (get_or s l.i 0 - 48)) in
-    let d = c.wide-d.ensures in
-    numbers.leading-over a.hi _ (omega arith)
-
-pub loop-i-preserved : goal.loop-i-preserved
-loop-i-preserved c =
-    let a = c.args in
-    let s = a.s.now in
-    let l = c.loop-i in
-    let on = l.invariant.1 ∙ numbers.digits-next s l.i l.n c.loop-i-test.true (digit (get_or s l.i 0) c.if-b-lt48.false c.if-b-gt57.false) in
-    let d = c.wide-d.ensures in
-    (omega arith, on ∙ ap (λ (x : ℕ). leading (l.n * 10 + x) (drop (l.i + 1) s)) (sym d))
-
-pub returns : goal.returns
-returns c =
-    let a = c.args in
-    let s = a.s.now in
-    let l = c.loop-i in
-    numbers.leading-is a.hi _ l.n (l.invariant.1 ∙ numbers.digits-spent s l.i l.n c.loop-i-test.false) l.invariant.0
+pub returns-in_err-n : goal.returns-in_err-n
+returns-in_err-n c =
+    let d = c.if-not-is_ascii_digit.ensures.cases in
+    let m = c.in_ok-checked_mul.ensures.1 in
+    let o = c.in_err-n.ensures in
+    let f = c.ranges.hi.fits in
+    c.from_residual-in_err-n.ensures ∙ digits-over _ _ _ _ _ c.loop-b-test.true (digit _ d.0 d.1) c.loop-b.invariant.1 c.from.ensures (omega arith)
