@@ -9,8 +9,8 @@ pub returns-then-length-lt1 : goal.returns-then-length-lt1
 returns-then-length-lt1 c =
     let e = c.text_len-length.ensures in
     elim c.then-length-lt1.branch [
-      then-length-lt1-via-then-length-lt1 w ↦ let h = w.if-length-lt1.true in name-empty _ (omega arith)
-    | then-length-lt1-via-else-length-lt1+then-not-fits w ↦ name-long _ _ _ refl (rw w.if-not-fits.true at c.copy_text-fits.ensures)
+      | then-length-lt1-via-then-length-lt1 w ↦ let h = w.if-length-lt1.true in name-empty _ (omega arith)
+      | then-length-lt1-via-else-length-lt1+then-not-fits w ↦ name-long _ _ _ refl (rw w.if-not-fits.true at c.copy_text-fits.ensures)
     ]
 
 pub returns : goal.returns
