@@ -4,7 +4,7 @@ use mathlib.Core.Bool.{Bool, true}
 use mathlib.Core.List.{List}
 use Prim.Native.Nat.{ℕ, ◌<◌, ◌≤◌, min}
 use native.Mathlib.Omega.{arith}
-use lib.Dec.{leb}
+use lib.Dec.{leb, eqb}
 use borrow.Author.Tests.{leb-true}
 use Rattle.base.specs.Bytes.{Bytes}
 use Rattle.rules.specs.Records.{Fault, too_long, not_text, bad_form, other_keyid, other_spec, Read, refused, says}
@@ -14,6 +14,8 @@ use Rattle.rules.specs.Steps.{install_table, cycle_table, root_table, timestamp_
 use Rattle.rules.specs.Asked.{Found, image_table, image_answer}
 use Rattle.rules.proofs.TableLaws.{every, first-every}
 use Rattle.answers.specs.Number.{highest, refusal_number}
+use denote.Enum.Bare.{sameb}
+use Rattle.answers.specs.contracts.Refusal.{the_type}
 use Rattle.answers.specs.declared.Refusal as answers
 use Rattle.answers.specs.declared.Refusal.TheVariants.{TooLong, NotText, BadForm, OtherSpec, BadArgument, NotHeld, HeldExpired, OtherContent, FewHeldKeys, FewOwnKeys, WrongVersion, NoNews, WentBack, FileExpired, NotListed, OtherKeyid, EarlierStart}
 
@@ -80,3 +82,23 @@ positive FileExpired = omega arith
 positive NotListed = omega arith
 positive OtherKeyid = omega arith
 positive EarlierStart = omega arith
+
+-- a refusal is this one where its number is 15
+pub is_not_listed : (r : answers.Refusal) → sameb the_type r NotListed ≡ eqb (refusal_number r) 15
+is_not_listed TooLong = refl
+is_not_listed NotText = refl
+is_not_listed BadForm = refl
+is_not_listed OtherSpec = refl
+is_not_listed BadArgument = refl
+is_not_listed NotHeld = refl
+is_not_listed HeldExpired = refl
+is_not_listed OtherContent = refl
+is_not_listed FewHeldKeys = refl
+is_not_listed FewOwnKeys = refl
+is_not_listed WrongVersion = refl
+is_not_listed NoNews = refl
+is_not_listed WentBack = refl
+is_not_listed FileExpired = refl
+is_not_listed NotListed = refl
+is_not_listed OtherKeyid = refl
+is_not_listed EarlierStart = refl

@@ -1,6 +1,5 @@
 -- The ways out of what decides a call: a file that cannot be read, a row of the table that holds, and the state with the file that becomes trusted.
 use mathlib.Core.Path.{◌≡◌, refl, sym, ap, ◌∙◌}
-use Rattle.std.specs.declared.option.Option.TheVariants.{Some}
 use mathlib.Core.List.{List}
 use mathlib.Core.Bool.{Bool, true, false}
 use Prim.Native.Nat.{ℕ}
@@ -13,7 +12,7 @@ use Rattle.rules.specs.State as rules
 use Rattle.rules.specs.State.{Install, RootOffer, Call, blank, root_in}
 use Rattle.rules.specs.Table.{Refusal, first, absent}
 use lib.IntN.{ℤ}
-use Rattle.rules.specs.Steps.{cycle_table, install_table, root_table, judged, install_answer, answer, refuses, with_root, Item, a_root, after_root, trusting, what_says, offered, started, next, root_alone, begun, installed, Began}
+use Rattle.rules.specs.Steps.{cycle_table, install_table, root_table, judged, install_answer, answer, refuses, with_root, Item, a_root, after_root, trusting, what_says, offered, started, root_alone, begun, installed, Began}
 use Rattle.rules.proofs.NextLaws.{next-refused, next-trusting, says_what}
 use Rattle.rules.proofs.TableLaws.{judged-is, no_line}
 use Rattle.std.specs.declared.result.Result.{Result}

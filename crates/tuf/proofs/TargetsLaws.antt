@@ -5,7 +5,7 @@ use Rattle.std.specs.declared.option.Option.{Option}
 use Rattle.std.specs.declared.option.Option.TheVariants.{None, Some}
 use Rattle.canonical_json.specs.Options.{bind}
 use mathlib.Core.List.{List}
-use mathlib.Core.Bool.{Bool, true, false, not}
+use mathlib.Core.Bool.{false, not}
 use Prim.Native.Nat.{ℕ}
 use native.Mathlib.Omega.{arith}
 use lib.IntN.{ℤ}
@@ -17,7 +17,6 @@ use Rattle.base.proofs.TestLaws.{never}
 use Rattle.base.proofs.WindowLaws.{window-part}
 use Rattle.sha256.specs.Message.{digest_of}
 use Rattle.sha256.proofs.DigestLaws.{digest-length}
-use Rattle.canonical_json.specs.Fields.{keep}
 use Rattle.rules.specs.Limits.{digest_size}
 use Rattle.rules.specs.Records.{Image, File, Read, refused, says}
 use Rattle.rules.specs.State as rules

@@ -127,8 +127,8 @@ impl State {
                     compared: search.compared,
                 }
             }
-            Err(Refusal::NotListed) => no_image(Refusal::NotListed, search.compared),
-            Err(refusal) => no_image(refusal, 0),
+            Err(why) if why == Refusal::NotListed => no_image(why, search.compared),
+            Err(why) => no_image(why, 0),
         }
     }
 

@@ -6,4 +6,4 @@ use Rattle.tuf.proofs.given.Goals as goal
 
 pub returns-in-Err : goal.returns-in-Err
 unfolding view_id window run byte_at
-returns-in-Err c = (refl, refl)
+returns-in-Err c = rw c.in-Err.is (refl, refl)

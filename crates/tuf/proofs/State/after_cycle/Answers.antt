@@ -1,5 +1,5 @@
 -- What decides a new cycle: its refusal, or the state with the start time.
-use mathlib.Core.Path.{refl, sym, ap, ◌∙◌}
+use mathlib.Core.Path.{refl, sym, ◌∙◌}
 use Rattle.rules.specs.State.{new_cycle}
 use Rattle.rules.specs.Steps.{answer, offered, started}
 use Rattle.rules.proofs.NextLaws.{next-none}

@@ -1,7 +1,7 @@
 -- What decides a root: the ways out of a step that reads a file.
-use mathlib.Core.Path.{refl, sym, ◌∙◌}
+use mathlib.Core.Path.{refl, ◌∙◌}
 use Rattle.rules.specs.State.{new_root}
-use Rattle.rules.specs.Steps.{answer, a_root, trusting, offered, started}
+use Rattle.rules.specs.Steps.{answer, a_root, offered, started}
 use Rattle.envelope.proofs.ReadLaws.{read-says, read-judged}
 use Rattle.records.specs.View.{view_root}
 use Rattle.tuf.specs.View.{view}

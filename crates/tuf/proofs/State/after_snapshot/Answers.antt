@@ -1,5 +1,5 @@
 -- What decides a snapshot: the ways out of a step that reads a file.
-use mathlib.Core.Path.{refl, sym, ◌∙◌}
+use mathlib.Core.Path.{refl, sym}
 use Rattle.rules.specs.State.{new_snapshot}
 use Rattle.rules.specs.Steps.{answer, a_snapshot, trusting, offered, started}
 use Rattle.envelope.proofs.ReadLaws.{read-says, read-judged}

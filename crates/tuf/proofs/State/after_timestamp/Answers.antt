@@ -1,5 +1,5 @@
 -- What decides a timestamp: the ways out of a step that reads a file.
-use mathlib.Core.Path.{refl, sym, ◌∙◌}
+use mathlib.Core.Path.{refl}
 use Rattle.rules.specs.State.{new_timestamp}
 use Rattle.rules.specs.Steps.{answer, a_timestamp, trusting, offered, started}
 use Rattle.envelope.proofs.ReadLaws.{read-says, read-judged}

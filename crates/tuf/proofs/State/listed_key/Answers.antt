@@ -1,5 +1,5 @@
 -- What decides a key: no root, a keyid that is not hex, one that the root does not list, and one that it lists.
-use mathlib.Core.Path.{refl, sym, ◌∙◌}
+use mathlib.Core.Path.{sym, ap, ◌∙◌}
 use Rattle.envelope.proofs.ReadLaws.{was-some, was-none}
 use Rattle.answers.specs.Number.{refusal_number}
 use Rattle.answers.specs.declared.Refusal.TheVariants.{NotListed}
@@ -15,7 +15,7 @@ pub returns-in_err-bytes : goal.returns-in_err-bytes
 unfolding view
 returns-in_err-bytes c =
     let w = was-none NotListed c.hex_array.result _ c.in_err-bytes.ensures.value in
-    key-refused c.args.self c.args.keyid.now _ (key-not-hex _ _ _ c.lacks_root.ensures c.if-lacks_root.false (sym c.hex_array.ensures ∙ w.0)) NotListed refl _
+    key-refused c.args.self c.args.keyid.now _ (key-not-hex _ _ _ c.lacks_root.ensures c.if-lacks_root.false (sym c.hex_array.ensures ∙ w.0)) c.in_err-bytes.field-0.0 (ap refusal_number w.1) _
     c.from_residual.ensures.1
 
 pub returns : goal.returns
