@@ -38,9 +38,6 @@ module _ (s k : Bytes) where
       go (Some ms) l = left_sought l
 
   module _ (m : Member) (o : Option Json) (w : Sought s k m o) where
-    pub sought_none : m ≡ NoObject → o ≡ None
-    sought_none q = rw q at w
-
     pub sought_end : (e : ℕ) → m ≡ End e → o ≡ None
     sought_end e q = rw q at w
 

@@ -13,7 +13,7 @@ use Rattle.canonical_json.specs.Read.{raw, NoDigit}
 use Rattle.canonical_json.specs.Fields.{members}
 use Rattle.canonical_json.proofs.Puts.{put-str, put-obj, members-nil, members-cons, more-members-nil, more-members-cons}
 use Rattle.lookup.specs.Place.{Stands, EndsAt, KnownEnd}
-use Rattle.lookup.specs.Walk.{closes, opens, Opens, Follows, ElementAfter, MemberAt, MemberAfter, NameAt, MembersLeft, members-end, members-at, MembersOf, MemberBy, by-none, by_end, by-at, FirstMember, NextMemberBy}
+use Rattle.lookup.specs.Walk.{closes, opens, Opens, Follows, ElementAfter, MemberAt, MemberAfter, NameAt, MembersLeft, members-end, members-at, MembersOf, MemberBy, FirstMember, NextMemberBy}
 use Rattle.lookup.specs.declared.Element.{Element}
 use Rattle.lookup.specs.declared.Element.TheVariants as element
 use Rattle.lookup.specs.declared.Member.{Member}
@@ -120,10 +120,10 @@ data MembersOpen (s rest : Bytes) : Element → Option Members → Type 0 where
   open_at : {i : ℕ} {n : Bytes} {v : Json} {ms : Members} → drop i s ≡ MemberText n v ms rest → ValidMembers (mcons n v ms) max_depth
       → MembersOpen s rest (element.At i) (Some (mcons n v ms))
 
-members-by : {s rest : Bytes} {r : Member} {e : Element} {o : Option Members} → MembersOpen s rest e o → MemberBy s e r → MembersOf s rest r o
-members-by open_none by-none = refl
-members-by (open_end t) by_end = members-end t
-members-by {rest = rest} (open_at {n = n} {v = v} {ms = ms} t g) (by-at m) = m.means n v ms rest t g
+members-by : {s rest : Bytes} (r : Member) {e : Element} {o : Option Members} → MembersOpen s rest e o → MemberBy s e r → MembersOf s rest r o
+members-by r open_none q = q
+members-by r (open_end t) q = rw q (members-end t)
+members-by {rest = rest} r (open_at {n = n} {v = v} {ms = ms} t g) m = m.means n v ms rest t g
 
 module _ (s : Bytes) (p : ℕ) where
   first-members : {e : Element} → Opens s p 123 125 e → (v : Json) (h : Stands s p v) → MembersOpen s h.rest e (members v)
@@ -166,30 +166,35 @@ module _ (s : Bytes) (p : ℕ) where
 
 -- ## The member that a bracket or a comma leads to
 
-by-after : (s : Bytes) (p : ℕ) {e : Element} {r : Member} → MemberBy s e r → ElementAfter s p e → MemberAfter s p r
-by-after s p by-none a = tt
-by-after s p by_end a = a
-by-after s p (by-at {i} {r} m) a = after-later s p i a.0 r m.onward
+module _ (s : Bytes) (p : ℕ) (r : Member) where
+  by-after : (e : Element) → MemberBy s e r → ElementAfter s p e → MemberAfter s p r
+  by-after element.NoArray q a = rw q tt
+  by-after (element.End e) q a = rw q a
+  by-after (element.At i) m a = after-later s p i a.0 r m.onward
 
-by-name : (s : Bytes) (p : ℕ) {e : Element} {r : Member} → MemberBy s e r → ((i : ℕ) → e ≡ element.At i → i ≡ p + 1) → NameAt r (p + 1 + 1)
-by-name s p by-none k = tt
-by-name s p by_end k = tt
-by-name s p (by-at {i} {r} m) k = name-later r m.place (k i refl)
+  by-name : (e : Element) → MemberBy s e r → ((i : ℕ) → e ≡ element.At i → i ≡ p + 1) → NameAt r (p + 1 + 1)
+  by-name element.NoArray q k = rw q tt
+  by-name (element.End e) q k = rw q tt
+  by-name (element.At i) m k = name-later r m.place (k i refl)
 
-module _ (s : Bytes) (p : ℕ) where
-  pub first_by : {e : Element} {r : Member} → Opens s p 123 125 e → MemberBy s e r → FirstMember s p r
-  first_by o b = record {
-    means = λ v h. members-by (first-members s p o v h) b;
-    onward = by-after s p b o.onward;
-    place = by-name s p b (opens-place s p 123 125 o);
-  }
+module _ (s : Bytes) (p : ℕ) (e : Element) (r : Member) (b : MemberBy s e r) where
+  pub first_by : Opens s p 123 125 e → FirstMember s p r
+  first_by o =
+      record {
+        means = λ v h. members-by r (first-members s p o v h) b;
+        onward = by-after s p r e b o.onward;
+        place = by-name s p r e b (opens-place s p 123 125 o);
+      }
 
-  pub next-by : {f : Option ℕ} {e : Element} {r : Member} → Follows s p 125 f e → MemberBy s e r → NextMemberBy s p f r
-  next-by {e = e} w b = record {
-    means = λ k. record {
-      means = λ i n v ms l. members-by (next-members s p w k i n v ms l) b;
-      onward = by-after s p b w.onward;
-      place = λ v h. by-name s (length s - length h.rest) b (λ i q. follows_place s p 125 e w k i q v h);
-    };
-    onward = by-after s p b w.onward;
-  }
+  pub next-by : {f : Option ℕ} → Follows s p 125 f e → NextMemberBy s p f r
+  next-by w =
+      let a = by-after s p r e b w.onward in
+      record {
+        means = λ k.
+            record {
+              means = λ i n v ms l. members-by r (next-members s p w k i n v ms l) b;
+              onward = a;
+              place = λ v h. by-name s (length s - length h.rest) r e b (λ i q. follows_place s p 125 e w k i q v h);
+            };
+        onward = a;
+      }

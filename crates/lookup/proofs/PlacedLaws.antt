@@ -69,9 +69,6 @@ module _ (s k : Bytes) where
       go (Some ms) l = left-placed (p + 1) l w.place
 
   module _ (m : Member) (o : Option ℕ) (w : Placed s k m o) where
-    pub placed-none : m ≡ NoObject → None ≡ o
-    placed-none q = sym (rw q at w)
-
     pub placed_end : (e : ℕ) → m ≡ End e → None ≡ o
     placed_end e q = sym (rw q at w)
 

@@ -105,10 +105,10 @@ pub record MemberAt (s : Bytes) (i : ℕ) (r : Member) : Type 0 where
   pub place : NameAt r (i + 1)
 
 -- the member that an opening brace or a comma leads to: the place behind it is that of a name's opening quote
-pub data MemberBy (s : Bytes) : Element → Member → Type 0 where
-  by-none : MemberBy s element.NoArray member.NoObject
-  by_end : {e : ℕ} → MemberBy s (element.End e) (member.End e)
-  by-at : {i : ℕ} {r : Member} → MemberAt s i r → MemberBy s (element.At i) r
+abbrev pub MemberBy : Bytes → Element → Member → Type 0
+MemberBy s element.NoArray r = r ≡ member.NoObject
+MemberBy s (element.End e) r = r ≡ member.End e
+MemberBy s (element.At i) r = MemberAt s i r
 
 -- `place`: the first name begins past the opening brace and a quote, a later one past the value before it, a comma and a quote
 pub record FirstMember (s : Bytes) (p : ℕ) (r : Member) : Type 0 where
