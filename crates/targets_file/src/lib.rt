@@ -15,11 +15,11 @@ ghost use Rattle.targets_file.specs.Plain.{PlainLength};
 ghost use Rattle.targets_file.specs.Pass.{OneMore};
 ghost use Rattle.targets_file.specs.View.{ReadsImage, ReadsNamed, FindsImage, listing_in, view_listing, seen, view_seen};
 
-use std::cmp::Ordering;
 use date::Time;
 use envelope::{Fault, Signed};
 use lookup::{Member, Spanned};
 use records::Id;
+use std::cmp::Ordering;
 
 // ---- An image
 

@@ -74,8 +74,8 @@ returns-then-n-lt1 c =
     let all = front view_named no_named l.named l.n in
     let f = seeks_end s _ _ l.m l.targets l.invariant.3 _ c.in-End.is in
     elim c.then-n-lt1.branch [
-      then-n-lt1-via-then-n-lt1 w ↦ record { means = names-broken s _ (λ v h. members-few named 1 max_names s l.m l.n all _ (l.invariant.4 v h) _ c.in-End.is w.if-n-lt1.true); end = tt }
-    | then-n-lt1-via-else-n-lt1+then-is_none w ↦ record { means = targets-missing s _ l.targets f.means (w.is_none.ensures ∙ ap not w.if-is_none.true); end = tt }
+      | then-n-lt1-via-then-n-lt1 w ↦ record { means = names-broken s _ (λ v h. members-few named 1 max_names s l.m l.n all _ (l.invariant.4 v h) _ c.in-End.is w.if-n-lt1.true); end = tt }
+      | then-n-lt1-via-else-n-lt1+then-is_none w ↦ record { means = targets-missing s _ l.targets f.means (w.is_none.ensures ∙ ap not w.if-is_none.true); end = tt }
     ]
 
 pub returns : goal.returns
