@@ -2,7 +2,6 @@
 use mathlib.Core.Logic.{◌⊎◌}
 use mathlib.Core.Path.{refl}
 use Prim.Native.Nat.{◌≤◌, ◌<◌}
-use native.Mathlib.Omega.{arith}
 use Rattle.std.proofs.Common.{rules}
 use Rattle.rules.specs.Limits.{max_path}
 use Rattle.targets_file.proofs.ImageLaws.{path-out, reads-named, broken-name}
