@@ -37,24 +37,24 @@ module _ (t : Bytes) where
   name-empty h = rw (lt-leb 1 (length t) h)
 
   -- copied to the front of a buffer of that many bytes
-  module _ (before after : Bytes) (l : length before ≡ max_name) where
-    name-fits : {fits : Bool} → Copies t before fits after → fits ≡ leb (length t) max_name
-    name-fits w = w.fits ∙ ap (λ (n : ℕ). leb (length t) n) l
+  module _ (before after : Bytes) (l : length before ≡ max_name) (fits : Bool) (w : Copies t before fits after) where
+    name-fits : fits ≡ leb (length t) max_name
+    name-fits = w.fits ∙ ap (λ (n : ℕ). leb (length t) n) l
 
-    pub name-long : Copies t before false after → None ≡ name_of max_name t
+    pub name-long : fits ≡ false → None ≡ name_of max_name t
     unfolding name_of keep
-    name-long w = rw (← name-fits w, and-false)
+    name-long q = rw (sym name-fits ∙ q, and-false)
 
-    pub name-is : 1 ≤ length t → Copies t before true after → Some (view_name (record { length = length t; bytes = after })) ≡ name_of max_name t
+    pub name-is : fits ≡ true → 1 ≤ length t → Some (view_name (record { length = length t; bytes = after })) ≡ name_of max_name t
     unfolding name_of keep view_name
-    name-is h w =
-        let f = name-fits w in
-        let s : length t ≤ max_name = leb-true (length t) max_name (sym f) in
+    name-is q h =
+        let f : leb (length t) max_name ≡ true = sym name-fits ∙ q in
+        let s : length t ≤ max_name = leb-true (length t) max_name f in
         let m : min (length t) max_name ≡ length t = omega arith in
         let a : length after ≡ max_name = ap length w.is ∙ copied-length t before ∙ l in
         let p : window after 0 (length t) ≡ take (length t) after = window-part after 0 (length t) (omega arith) in
         let c : take (length t) after ≡ t = ap (λ (x : Bytes). take (length t) x) w.is ∙ copied-front t before (omega arith) in
-        rw (le-leb 1 (length t) h, ← f, m, p, c) refl
+        rw (le-leb 1 (length t) h, f, m, p, c) refl
 
 -- ## What is said of it
 

@@ -15,10 +15,10 @@ use Rattle.base.proofs.TestLaws.{never}
 use Rattle.base.proofs.PlaceLaws.{at-cons}
 use Rattle.canonical_json.specs.Lead.{wf, lead_of}
 use Rattle.canonical_json.specs.Json.{num, put, put_bytes, Valid, valid_num, max_depth}
-use Rattle.canonical_json.specs.Read.{Got, bad, got, end_of, number, read, raw}
+use Rattle.canonical_json.specs.Read.{Got, bad, got, end_of, number, read}
 use Rattle.canonical_json.specs.Fields as fields
 use Rattle.canonical_json.specs.Fields.{field, members, lookup, text, keep}
-use Rattle.std.specs.declared.option.Option.TheVariants.{None, Some}
+use Rattle.std.specs.declared.option.Option.TheVariants.{Some}
 use Rattle.canonical_json.proofs.Says.{says_of}
 use Rattle.canonical_json.proofs.NumberLaws.{number_sound}
 use Rattle.canonical_json.proofs.Puts.{put-num}

@@ -1,5 +1,5 @@
 -- The search in the pass over the images of a targets file.
-use Rattle.std.specs.Prelude.{◌≡◌, true, false, cond, not, List, [], ◌∷◌, ℕ, ◌+◌, drop}
+use Rattle.std.specs.Prelude.{◌≡◌, false, cond, not, List, [], ◌∷◌, ℕ, ◌+◌, drop}
 use Rattle.std.specs.declared.option.Option.TheVariants.{None}
 use Rattle.base.specs.Bytes.{Bytes, same, less}
 use Rattle.canonical_json.specs.Read.{raw}

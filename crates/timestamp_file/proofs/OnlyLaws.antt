@@ -14,7 +14,7 @@ use Rattle.canonical_json.specs.Fields.{members, keep}
 use Rattle.lookup.specs.Place.{Stands, PlaceOf, Finds, Takes}
 use Rattle.lookup.specs.Walk.{MembersLeft, members-end, members-at, MembersOf, FirstMember, NextMember}
 use Rattle.lookup.specs.declared.Member.{Member}
-use Rattle.lookup.specs.declared.Member.TheVariants.{NoObject, End, At}
+use Rattle.lookup.specs.declared.Member.TheVariants.{End, At}
 use Rattle.lookup.proofs.MemberLaws.{member-stands, member-name}
 use Rattle.rules.specs.Take.{◌>>=◌, single, sole}
 use Rattle.forms.proofs.StepLaws.{stop, on}

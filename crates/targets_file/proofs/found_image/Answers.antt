@@ -2,9 +2,7 @@
 use mathlib.Core.Path.{sym, ap, ◌∙◌}
 use Rattle.std.specs.declared.option.Option.TheVariants.{Some}
 use Rattle.base.specs.Bytes.{Bytes}
-use Rattle.base.proofs.TestLaws.{never}
 use Rattle.rules.specs.Limits.{digest_size}
-use Rattle.rules.specs.Asked.{Found}
 use Rattle.rules.proofs.OptionLaws.{none-not-some, some_is}
 use Rattle.forms.proofs.TextLaws.{unhex_yes}
 use Rattle.targets_file.specs.View.{described, view_found}

@@ -1,11 +1,11 @@
 -- `with_image` meets its contract: a name is compared where the search is not over.
-use mathlib.Core.Path.{◌≡◌, refl, sym, ap, ◌∙◌}
+use mathlib.Core.Path.{ap, ◌∙◌}
 use mathlib.Core.Bool.{true}
 use Rattle.std.specs.declared.option.Option.{Option}
 use Rattle.std.specs.declared.cmp.Ordering.TheVariants.{Less, Equal, Greater}
 use Rattle.canonical_json.specs.Fields.{keep}
 use Rattle.rules.specs.Asked.{Found}
-use Rattle.targets_file.specs.View.{described, view_search}
+use Rattle.targets_file.specs.View.{view_search}
 use Rattle.targets_file.proofs.ImageLaws.{still-over, compared-now}
 use Rattle.targets_file.proofs.with_image.Goals as goal
 

@@ -1,9 +1,9 @@
 -- `read_timestamp` meets its contract.
 use mathlib.Core.Path.{◌≡◌, refl}
-use native.Mathlib.Omega.{arith}
 use borrow.Author.Tests.{not-true, not-false}
+use Rattle.std.proofs.Common.{rules}
 use Rattle.std.specs.declared.option.Option.TheVariants.{None, Some}
-use Rattle.std.proofs.lemmas.Result.{err_from_is_err_and}
+use Rattle.std.specs.declared.result.Result.TheVariants.{Err}
 use Rattle.rules.specs.Forms.{timestamp}
 use Rattle.rules.specs.Reading.{no_table, read_timestamp}
 use Rattle.rules.specs.State.{keep_timestamp, timestamp_in}
@@ -16,45 +16,40 @@ use Rattle.timestamp_file.proofs.read_timestamp.Goals as goal
 pub returns-in_err-opened : goal.returns-in_err-opened
 unfolding timestamp_in read_timestamp timestamp
 returns-in_err-opened c =
-    let p = err_from_is_err_and c.from_residual.result c.from_residual.ensures.1 in
-    rw (p.1, p.2) (role-refused _ _ no_table keep_timestamp view_timestamp c.args.file.now _ c.in_err-opened.ensures)
+    let r : c.from_residual.result ≡ Err c.in_err-opened.field-0.0 = search rules in
+    rw r (role-refused _ _ no_table keep_timestamp view_timestamp c.args.file.now _ c.in_err-opened.ensures)
 
 pub returns-in_err-meta : goal.returns-in_err-meta
 unfolding timestamp_in read_timestamp timestamp
 returns-in_err-meta c =
-    let p = err_from_is_err_and c.from_residual-in_err-meta.result c.from_residual-in_err-meta.ensures.1 in
-    let e : c.in_err-meta.field-0.0 ≡ BadForm = grind arith in
-    let n : c.meta_listed.result ≡ None = grind arith in
-    let meta = rw n at (c.meta_listed.ensures.means _ _ c.find_member-found.ensures.means) in
-    rw (p.1, p.2, e) (role-broken _ _ no_table keep_timestamp view_timestamp c.args.file.now _ c.in_ok-opened.ensures meta)
+    let r : c.from_residual-in_err-meta.result ≡ Err BadForm = search rules in
+    let b : c.meta_listed.result ≡ None = search rules in
+    let body = rw b at (c.meta_listed.ensures.means _ _ c.find_member-found.ensures.means) in
+    rw r (role-broken _ _ no_table keep_timestamp view_timestamp c.args.file.now _ c.in_ok-opened.ensures body)
 
 pub returns-in_err-header : goal.returns-in_err-header
 unfolding timestamp_in read_timestamp timestamp
 returns-in_err-header c =
-    let p = err_from_is_err_and c.from_residual-in_err-header.result c.from_residual-in_err-header.ensures.1 in
-    let e : c.in_err-header.field-0.0 ≡ BadForm = grind arith in
-    let m : c.meta_listed.result ≡ Some c.in_ok-meta.meta = grind arith in
-    let n : c.header_at.result ≡ None = grind arith in
-    let end = rw m at c.meta_listed.ensures.end in
-    let header = rw n at (c.header_at.ensures (c.extent_of-body.ensures _ end)) in
-    rw (p.1, p.2, e) (role_headless _ _ no_table keep_timestamp view_timestamp c.args.file.now _ c.in_ok-opened.ensures header)
+    let r : c.from_residual-in_err-header.result ≡ Err BadForm = search rules in
+    let b : c.meta_listed.result ≡ Some c.in_ok-meta.meta = search rules in
+    let n : c.header_at.result ≡ None = search rules in
+    let header = rw n at (c.header_at.ensures (c.extent_of-body.ensures _ (rw b at c.meta_listed.ensures.end))) in
+    rw r (role_headless _ _ no_table keep_timestamp view_timestamp c.args.file.now _ c.in_ok-opened.ensures header)
 
 pub returns-then-not-header : goal.returns-then-not-header
 unfolding timestamp_in read_timestamp timestamp view_header
 returns-then-not-header c =
-    let m : c.meta_listed.result ≡ Some c.in_ok-meta.meta = grind arith in
-    let n : c.header_at.result ≡ Some c.in_ok-header.header = grind arith in
-    let meta = rw m at (c.meta_listed.ensures.means _ _ c.find_member-found.ensures.means) in
-    let end = rw m at c.meta_listed.ensures.end in
-    let header = rw n at (c.header_at.ensures (c.extent_of-body.ensures _ end)) in
-    role-other _ _ no_table keep_timestamp view_timestamp c.args.file.now _ c.in_ok-opened.ensures _ meta _ header (λ v h. refl) (not-true _ c.if-not-header.true)
+    let b : c.meta_listed.result ≡ Some c.in_ok-meta.meta = search rules in
+    let n : c.header_at.result ≡ Some c.in_ok-header.header = search rules in
+    let body = rw b at (c.meta_listed.ensures.means _ _ c.find_member-found.ensures.means) in
+    let header = rw n at (c.header_at.ensures (c.extent_of-body.ensures _ (rw b at c.meta_listed.ensures.end))) in
+    role-other _ _ no_table keep_timestamp view_timestamp c.args.file.now _ c.in_ok-opened.ensures _ body _ header (λ v h. refl) (not-true _ c.if-not-header.true)
 
 pub returns : goal.returns
 unfolding timestamp_in read_timestamp timestamp view_timestamp keep_timestamp view_header
 returns c =
-    let m : c.meta_listed.result ≡ Some c.in_ok-meta.meta = grind arith in
-    let n : c.header_at.result ≡ Some c.in_ok-header.header = grind arith in
-    let meta = rw m at (c.meta_listed.ensures.means _ _ c.find_member-found.ensures.means) in
-    let end = rw m at c.meta_listed.ensures.end in
-    let header = rw n at (c.header_at.ensures (c.extent_of-body.ensures _ end)) in
-    role-says _ _ no_table keep_timestamp view_timestamp c.args.file.now _ c.in_ok-opened.ensures _ meta _ header (λ v h. refl) (not-false _ c.if-not-header.false) _ (λ spec. refl) refl
+    let b : c.meta_listed.result ≡ Some c.in_ok-meta.meta = search rules in
+    let n : c.header_at.result ≡ Some c.in_ok-header.header = search rules in
+    let body = rw b at (c.meta_listed.ensures.means _ _ c.find_member-found.ensures.means) in
+    let header = rw n at (c.header_at.ensures (c.extent_of-body.ensures _ (rw b at c.meta_listed.ensures.end))) in
+    role-says _ _ no_table keep_timestamp view_timestamp c.args.file.now _ c.in_ok-opened.ensures _ body _ header (λ v h. refl) (not-false _ c.if-not-header.false) _ (λ spec. refl) refl
