@@ -3,12 +3,14 @@ use mathlib.Core.Path.{◌≡◌, refl, sym, ◌∙◌}
 use Rattle.std.specs.declared.option.Option.{Option}
 use Rattle.std.specs.declared.option.Option.TheVariants.{None, Some}
 use Rattle.canonical_json.specs.Options.{bind}
+use Rattle.std.specs.Prelude.{MatchOption}
+use mathlib.Core.Bool.{Bool, false}
 use Prim.Native.Nat.{ℕ}
 use lib.ListN.{drop}
 use Rattle.base.specs.Bytes.{Bytes}
 use Rattle.canonical_json.specs.Json.{Json}
 use Rattle.canonical_json.specs.Read.{raw}
-use Rattle.canonical_json.specs.Fields.{text, field}
+use Rattle.canonical_json.specs.Fields.{text, field, keep}
 use Rattle.lookup.specs.Place.{Stands, PlaceOf, Finds, Takes, Reads}
 use Rattle.lookup.specs.Leaves.{string_in}
 use Rattle.lookup.proofs.StringLaws.{no_text, text-there}
@@ -65,6 +67,12 @@ module _ {A : Type 0} (s : Bytes) (f : Json → Option A) (found : Option ℕ) w
   pub may-holds : (x : ℕ) → found ≡ Some x → (i : Option A) → Takes s x f i → (o : Option (Option A)) → o ≡ (i >>= λ a. Some (Some a)) → TakesMay s found f o
   may-holds x q i t o e p k w = may_at s p k w f o x q i t e
 
+-- a test of a member
+pub must-test : (s : Bytes) (f : Json → Option (Unit {0})) (found : Option ℕ) (b : Bool) → MatchOption found (b ≡ false) (λ x. Takes s x f (keep b tt)) → TakesMust s found f (keep b tt)
+unfolding keep
+must-test s f None b m = must-lacks s f None refl (keep b tt) (rw m refl)
+must-test s f (Some x) b m = must-holds s f (Some x) x refl (keep b tt) m
+
 -- ## A reader that refuses
 
 pub reads-none : {T A : Type 0} (view : T → A) (s : Bytes) (p : ℕ) (form : Json → Option A) (r : Option (Spanned T)) → r ≡ None → Takes s p form None → Reads view s p form r
@@ -78,3 +86,10 @@ module _ (s : Bytes) (p : ℕ) {r : Option ℕ} (q : r ≡ string_in p (drop p s
 
   pub text_at : (i : ℕ) → r ≡ Some i → o ≡ g (raw (drop i s)) → Takes s p (λ v. text v >>= g) o
   text_at i n e v h = e ∙ sym (on g (text-there s p v h r q i n))
+
+-- a test of it
+pub text-test : (s : Bytes) (p : ℕ) (r : Option ℕ) → r ≡ string_in p (drop p s) → (t : Bytes → Bool) (b : Bool) → MatchOption r (b ≡ false) (λ i. b ≡ t (raw (drop i s)))
+    → Takes s p (λ v. text v >>= λ x. keep (t x) (tt {0})) (keep b tt)
+unfolding keep
+text-test s p None q t b m = text-none s p q (λ x. keep (t x) (tt {0})) (keep b tt) refl (rw m refl)
+text-test s p (Some i) q t b m = text_at s p q (λ x. keep (t x) (tt {0})) (keep b tt) i refl (rw m refl)

@@ -235,6 +235,3 @@ module _ (t b after : Bytes) (done : Bool) (long : length b ≡ 20) (w : Fills t
   date-not d =
       let x : (length form ≡ length t → ⊥) = λ (e : length form ≡ length t). eqb-false (length t) (length b) (sym w.fits ∙ d) (sym e ∙ sym long) in
       rw (form_lengths form t x)
-
-  pub date-is : done ≡ true → date_of after ≡ date_of t
-  date-is d = ap date_of (w.is ∙ rw d)

@@ -144,20 +144,14 @@ pub fn version_field(s: &[u8], found: Option<usize>) -> Option<u64>
 fn word_at(s: &[u8], at: usize, k: &[u8]) -> bool
     ensures { Takes s.now at (word k.now) (keep result tt) }
 {
-    match lookup::string_at(s, at) {
-        None => false,
-        Some(i) => lookup::text_is(s, i, k),
-    }
+    lookup::string_at(s, at).is_some_and(|i| lookup::text_is(s, i, k))
 }
 
 // Whether the member is the string `k`.
 pub fn word_field(s: &[u8], found: Option<usize>, k: &[u8]) -> bool
     ensures { TakesMust s.now found (word k.now) (keep result tt) }
 {
-    match found {
-        None => false,
-        Some(at) => word_at(s, at, k),
-    }
+    found.is_some_and(|at| word_at(s, at, k))
 }
 
 fn date_in(s: &[u8], i: usize) -> Option<Time>

@@ -1,14 +1,19 @@
 -- `word_at` meets its contract.
-use Rattle.forms.proofs.StepLaws.{text-none, text_at}
+use mathlib.Core.Path.{◌≡◌}
+use mathlib.Core.Bool.{false}
+use lib.ListN.{drop}
+use Rattle.std.proofs.Common.{rules}
+use Rattle.std.specs.Prelude.{MatchOption}
+use Rattle.base.specs.Bytes.{Bytes, same}
+use Rattle.canonical_json.specs.Read.{raw}
 use Rattle.rules.specs.Take.{word}
-use Rattle.canonical_json.specs.Fields.{keep}
-use mathlib.Core.Path.{refl, ap}
+use Rattle.forms.proofs.StepLaws.{text-test}
 use Rattle.forms.proofs.word_at.Goals as goal
 
-pub returns-in-None : goal.returns-in-None
-unfolding word keep
-returns-in-None c = text-none _ _ c.string_at.ensures _ _ c.in-None.is refl
-
-pub returns-in-Some : goal.returns-in-Some
+pub returns : goal.returns
 unfolding word
-returns-in-Some c = text_at _ _ c.string_at.ensures _ _ _ c.in-Some.is (ap (λ b. keep b tt) c.text_is.ensures)
+returns c =
+    let a = c.args in
+    let b = c.is_some_and.result in
+    let m : MatchOption c.string_at.result (b ≡ false) (λ i. b ≡ same (raw (drop i a.s.now)) a.k.now) = search rules in
+    text-test _ _ _ c.string_at.ensures (λ (t : Bytes). same t a.k.now) _ m
