@@ -177,10 +177,11 @@ pub fn gronwythal_entry(file: &[u8], place: usize) -> EntryRead
     ensures { view_entry_read result ≡ entry_at file.now place }
 {
     let read = tuf::entry(file, place);
+    let sig = read.sig;
     EntryRead {
         answer: answers::number(read.answer),
         keyid: read.keyid,
-        sig: read.sig,
+        sig,
     }
 }
 
