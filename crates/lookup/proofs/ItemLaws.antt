@@ -21,7 +21,7 @@ use Rattle.lookup.specs.declared.Element.{Element}
 use Rattle.lookup.specs.declared.Element.TheVariants.{NoArray, End, At}
 use Rattle.canonical_json.proofs.Deeper.{deeper}
 use Rattle.lookup.proofs.FirstByte.{begins_with, begins, not-closing}
-use Rattle.lookup.proofs.StandsLaws.{there, front, rest_at, end-found, end_is, place_after}
+use Rattle.lookup.proofs.StandsLaws.{there, front, rest_at, end-found, end_is}
 
 -- ## Brackets
 
@@ -99,23 +99,19 @@ follows_by s p close w e q r k v h =
     ∙ ap (λ (t : Bytes). closes close (length s - length h.rest + 1) (length s - length h.rest + 1) t) (rest_at s p v h)
 
 -- the ways out of `following`
-module _ (s : Bytes) (p close : ℕ) (f r : Option ℕ) (w : EndsBy s p f r) where
-  pub following_none : r ≡ None → Follows s p close f NoArray
-  following_none q = record { means = λ k v h. absurd (end-found s p v h (w.means k) q); onward = tt }
+module _ (s : Bytes) (p close : ℕ) (f : Option ℕ) where
+  pub following_none : EndsBy s p f None → Follows s p close f NoArray
+  following_none w = record { means = λ k v h. absurd (end-found s p v h (w.means k) refl); onward = tt }
 
-  module _ (e : ℕ) (q : r ≡ Some e) where
+  module _ (e : ℕ) (w : EndsBy s p f (Some e)) where
     pub following_cut : length s ≤ e → Follows s p close f NoArray
-    following_cut h = record { means = λ k. follows_by s p close (w.means k) e q NoArray (sym (close-cut close _ _ s e h)); onward = tt }
+    following_cut h = record { means = λ k. follows_by s p close (w.means k) e refl NoArray (sym (close-cut close _ _ s e h)); onward = tt }
 
     pub following_end : e < length s → get_or s e 0 ≡ close → Follows s p close f (End (e + 1))
-    following_end h b =
-        let a = place_after s p r w.onward e q in
-        record { means = λ k. follows_by s p close (w.means k) e q _ (sym (close-here close _ _ s e h b)); onward = (omega (arith, a.0), omega arith) }
+    following_end h b = record { means = λ k. follows_by s p close (w.means k) e refl _ (sym (close-here close _ _ s e h b)); onward = (omega (arith, w.onward.0), omega arith) }
 
     pub following_at : e < length s → (get_or s e 0 ≡ close → ⊥) → Follows s p close f (At (e + 1))
-    following_at h b =
-        let a = place_after s p r w.onward e q in
-        record { means = λ k. follows_by s p close (w.means k) e q _ (sym (close-later close _ _ s e h b)); onward = (omega (arith, a.0), omega arith) }
+    following_at h b = record { means = λ k. follows_by s p close (w.means k) e refl _ (sym (close-later close _ _ s e h b)); onward = (omega (arith, w.onward.0), omega arith) }
 
 -- where the next element begins
 closes-place : (close past j : ℕ) (t : Bytes) (i : ℕ) → closes close past j t ≡ At i → i ≡ j
