@@ -14,21 +14,67 @@ use records::Id;
 use state::{Version, Versions};
 use tuf::State;
 
-// A value twice, one behind the other.
 #[repr(C)]
 #[derive(Clone, Copy)]
-pub struct Two<T> {
-    pub first: T,
-    pub second: T,
+pub struct States {
+    pub first: State,
+    pub second: State,
 }
 
-fn twice<T: Copy>(one: T) -> Two<T>
-    ensures { (result.first ≡ one) × (result.second ≡ one) }
-{
-    Two {
-        first: one,
-        second: one,
-    }
+#[repr(C)]
+#[derive(Clone, Copy)]
+pub struct Steps {
+    pub first: Step,
+    pub second: Step,
+}
+
+#[repr(C)]
+#[derive(Clone, Copy)]
+pub struct Images {
+    pub first: Image,
+    pub second: Image,
+}
+
+#[repr(C)]
+#[derive(Clone, Copy)]
+pub struct PublicKeys {
+    pub first: PublicKey,
+    pub second: PublicKey,
+}
+
+#[repr(C)]
+#[derive(Clone, Copy)]
+pub struct Digests {
+    pub first: Id,
+    pub second: Id,
+}
+
+#[repr(C)]
+#[derive(Clone, Copy)]
+pub struct Looks {
+    pub first: Looked,
+    pub second: Looked,
+}
+
+#[repr(C)]
+#[derive(Clone, Copy)]
+pub struct Entries {
+    pub first: EntryRead,
+    pub second: EntryRead,
+}
+
+#[repr(C)]
+#[derive(Clone, Copy)]
+pub struct TwoVersion {
+    pub first: Version,
+    pub second: Version,
+}
+
+#[repr(C)]
+#[derive(Clone, Copy)]
+pub struct TwoVersions {
+    pub first: Versions,
+    pub second: Versions,
 }
 
 fn id(mark: u8) -> Id
@@ -47,26 +93,32 @@ fn state_at(start: i64) -> State
 }
 
 #[unsafe(no_mangle)]
-pub extern "C" fn layout_state(start: i64) -> Two<State>
+pub extern "C" fn layout_state(start: i64) -> States
     ensures { (view result.first ≡ next blank_state (new_cycle start)) × (result.second ≡ result.first) }
 {
     let one = state_at(start);
-    twice(one)
+    States {
+        first: one,
+        second: one,
+    }
 }
 
 #[unsafe(no_mangle)]
-pub extern "C" fn layout_step(answer: u8, start: i64) -> Two<Step>
+pub extern "C" fn layout_step(answer: u8, start: i64) -> Steps
     ensures { (result.first.answer ≡ answer) × (view result.first.state ≡ next blank_state (new_cycle start)) × (result.second ≡ result.first) }
 {
     let state = state_at(start);
     let one = Step { answer, state };
-    twice(one)
+    Steps {
+        first: one,
+        second: one,
+    }
 }
 
 // ---- Structs of numbers and bytes
 
 #[unsafe(no_mangle)]
-pub extern "C" fn layout_image(answer: u8, length: u64, mark: u8, compared: usize) -> Two<Image>
+pub extern "C" fn layout_image(answer: u8, length: u64, mark: u8, compared: usize) -> Images
     ensures { (result.first.answer ≡ answer) × (result.first.length ≡ length) × (result.first.digest.bytes ≡ replicate 32 mark) × (result.first.compared ≡ compared) × (result.second ≡ result.first) }
 {
     let digest = id(mark);
@@ -76,34 +128,35 @@ pub extern "C" fn layout_image(answer: u8, length: u64, mark: u8, compared: usiz
         digest,
         compared,
     };
-    twice(one)
+    Images {
+        first: one,
+        second: one,
+    }
 }
 
 #[unsafe(no_mangle)]
-pub extern "C" fn layout_public_key(answer: u8, mark: u8) -> Two<PublicKey>
+pub extern "C" fn layout_public_key(answer: u8, mark: u8) -> PublicKeys
     ensures { (result.first.answer ≡ answer) × (result.first.public.bytes ≡ replicate 32 mark) × (result.second ≡ result.first) }
 {
     let public = id(mark);
     let one = PublicKey { answer, public };
-    twice(one)
+    PublicKeys {
+        first: one,
+        second: one,
+    }
 }
 
 #[unsafe(no_mangle)]
-pub extern "C" fn layout_digest(first_mark: u8, second_mark: u8) -> Two<Id>
+pub extern "C" fn layout_digest(first_mark: u8, second_mark: u8) -> Digests
     ensures { (result.first.bytes ≡ replicate 32 first_mark) × (result.second.bytes ≡ replicate 32 second_mark) }
 {
     let first = id(first_mark);
     let second = id(second_mark);
-    Two { first, second }
+    Digests { first, second }
 }
 
 #[unsafe(no_mangle)]
-pub extern "C" fn layout_look(
-    answer: u8,
-    start: usize,
-    length: usize,
-    entries: usize,
-) -> Two<Looked>
+pub extern "C" fn layout_look(answer: u8, start: usize, length: usize, entries: usize) -> Looks
     ensures { (result.first.answer ≡ answer) × (result.first.start ≡ start) × (result.first.length ≡ length) × (result.first.entries ≡ entries) × (result.second ≡ result.first) }
 {
     let one = Looked {
@@ -112,27 +165,36 @@ pub extern "C" fn layout_look(
         length,
         entries,
     };
-    twice(one)
+    Looks {
+        first: one,
+        second: one,
+    }
 }
 
 #[unsafe(no_mangle)]
-pub extern "C" fn layout_entry(answer: u8, keyid_mark: u8, sig_mark: u8) -> Two<EntryRead>
+pub extern "C" fn layout_entry(answer: u8, keyid_mark: u8, sig_mark: u8) -> Entries
     ensures { (result.first.answer ≡ answer) × (result.first.keyid.bytes ≡ replicate 32 keyid_mark) × (result.first.sig ≡ replicate 64 sig_mark) × (result.second ≡ result.first) }
 {
     let keyid = id(keyid_mark);
     let sig = [sig_mark; 64];
     let one = EntryRead { answer, keyid, sig };
-    twice(one)
+    Entries {
+        first: one,
+        second: one,
+    }
 }
 
 // ---- Versions
 
 #[unsafe(no_mangle)]
-pub extern "C" fn layout_version(held: bool, number: u64) -> Two<Version>
+pub extern "C" fn layout_version(held: bool, number: u64) -> TwoVersion
     ensures { (result.first.held ≡ held) × (result.first.number ≡ number) × (result.second ≡ result.first) }
 {
     let one = Version { held, number };
-    twice(one)
+    TwoVersion {
+        first: one,
+        second: one,
+    }
 }
 
 // A truth value has no marks of its own: one of the four is true at a time.
@@ -144,7 +206,7 @@ pub extern "C" fn layout_versions(
     snapshot: u64,
     targets: u64,
     start: i64,
-) -> Two<Versions>
+) -> TwoVersions
     ensures held_value { (result.first.root.held ≡ eqb held 0) × (result.first.root.number ≡ root) }
     ensures held_value_2 { (result.first.timestamp.held ≡ eqb held 1) × (result.first.timestamp.number ≡ timestamp) }
     ensures held_value_3 { (result.first.snapshot.held ≡ eqb held 2) × (result.first.snapshot.number ≡ snapshot) }
@@ -170,5 +232,8 @@ pub extern "C" fn layout_versions(
         },
         start: Time { seconds: start },
     };
-    twice(one)
+    TwoVersions {
+        first: one,
+        second: one,
+    }
 }
