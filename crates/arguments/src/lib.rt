@@ -1,7 +1,8 @@
 // The arguments of a line. The bytes of all of them stand one behind another in one buffer.
 #![tactic(auto)]
 
-ghost use Rattle.std.specs.Prelude.{◌≤◌, length, IfOk, Some};
+ghost use Rattle.std.specs.Prelude.{◌≡◌, ◌≤◌, length, slice_get, IfOk, Some};
+ghost use Rattle.arguments.specs.Parts.{number_of, time_of};
 ghost use Rattle.arguments.specs.Reasons.{reason};
 
 use date::Time;
@@ -237,7 +238,9 @@ impl<'b> Arguments<'b> {
     }
 
     // The number that argument k is; 0 where it is none.
-    pub fn number(&self, k: usize) -> u64 {
+    pub fn number(&self, k: usize) -> u64
+        ensures { result ≡ number_of (slice_get self.now.all k) }
+    {
         match self.all.get(k) {
             Some(Argument::Number(n)) => *n,
             _ => 0,
@@ -245,7 +248,9 @@ impl<'b> Arguments<'b> {
     }
 
     // The time that argument k is; 0 where it is none.
-    pub fn time(&self, k: usize) -> Time {
+    pub fn time(&self, k: usize) -> Time
+        ensures { result ≡ time_of (slice_get self.now.all k) }
+    {
         match self.all.get(k) {
             Some(Argument::Time(t)) => *t,
             _ => Time { seconds: 0 },
