@@ -62,11 +62,11 @@ pub struct EntryRead {
     pub sig: [u8; 64],
 }
 
-// The step with its answer as a number.
-impl From<tuf::Step> for Step {
-    ghost from_gives = { Numbered };
+// The step with its answer as a number. By reference: each copy of a state takes 4,608 bytes of the stack.
+impl From<&tuf::Step> for Step {
+    ghost from_gives = { λ step r. Numbered step.now r };
 
-    fn from(step: tuf::Step) -> Step {
+    fn from(step: &tuf::Step) -> Step {
         Step {
             answer: answers::number(step.answer),
             state: step.state,
@@ -85,37 +85,37 @@ pub fn gronwythal_blank() -> State
 pub fn gronwythal_install(file: &[u8], row: &[u8], start: i64) -> Step
     ensures { Began (record { file = file.entry.now; row = row.now; start = start }) result.answer (view result.state) }
 {
-    Step::from(State::install(file, row, Time { seconds: start }))
+    Step::from(&State::install(file, row, Time { seconds: start }))
 }
 
 pub fn gronwythal_new_cycle(state: State, start: i64) -> Step
     ensures { Steps state (new_cycle start) result.answer result.state }
 {
-    Step::from(state.new_cycle(Time { seconds: start }))
+    Step::from(&state.new_cycle(Time { seconds: start }))
 }
 
 pub fn gronwythal_root(state: State, file: &[u8], held: &[u8], own: &[u8]) -> Step
     ensures { Steps state (new_root (record { file = file.entry.now; held_row = held.now; own_row = own.now })) result.answer result.state }
 {
-    Step::from(state.root(file, held, own))
+    Step::from(&state.root(file, held, own))
 }
 
 pub fn gronwythal_timestamp(state: State, file: &[u8], row: &[u8]) -> Step
     ensures { Steps state (new_timestamp (record { file = file.entry.now; row = row.now })) result.answer result.state }
 {
-    Step::from(state.timestamp(file, row))
+    Step::from(&state.timestamp(file, row))
 }
 
 pub fn gronwythal_snapshot(state: State, file: &[u8], row: &[u8]) -> Step
     ensures { Steps state (new_snapshot (record { file = file.entry.now; row = row.now })) result.answer result.state }
 {
-    Step::from(state.snapshot(file, row))
+    Step::from(&state.snapshot(file, row))
 }
 
 pub fn gronwythal_targets(state: State, file: &[u8], row: &[u8]) -> Step
     ensures { Steps state (new_targets (record { file = file.entry.now; row = row.now })) result.answer result.state }
 {
-    Step::from(state.targets(file, row))
+    Step::from(&state.targets(file, row))
 }
 
 pub fn gronwythal_find(state: State, file: &[u8], path: &[u8]) -> Image

@@ -46,16 +46,16 @@ pub fn judge_install(offered: Root, entries: Entries, row: &[u8]) -> Answer
 }
 
 // New cycle (A8: 17): "an equal one passes"
-pub fn judge_cycle(s: State, start: Time) -> Answer
-    ensures { number_of result ≡ first (cycle_table (view s) start.seconds) }
+pub fn judge_cycle(s: &State, start: Time) -> Answer
+    ensures { number_of result ≡ first (cycle_table (view s.now) start.seconds) }
 {
     refuse_if(s.is_earlier(start), Refusal::EarlierStart)?;
     Ok(())
 }
 
 // "Timestamp (1 to 7, 9, 11 to 14): leans on root"
-pub fn judge_timestamp(s: State, offered: Timestamp, entries: Entries, row: &[u8]) -> Answer
-    ensures { (o : FileOffer) → o.row ≡ row.now → number_of result ≡ first (timestamp_table (view s) o (view_timestamp offered) (view_entries entries)) }
+pub fn judge_timestamp(s: &State, offered: Timestamp, entries: Entries, row: &[u8]) -> Answer
+    ensures { (o : FileOffer) → o.row ≡ row.now → number_of result ≡ first (timestamp_table (view s.now) o (view_timestamp offered) (view_entries entries)) }
 {
     refuse_if(keys::bad_row(entries, row), Refusal::BadArgument)?;
     refuse_if(s.lacks_root(), Refusal::NotHeld)?;
@@ -75,8 +75,8 @@ pub fn judge_timestamp(s: State, offered: Timestamp, entries: Entries, row: &[u8
 }
 
 // "Root (1 to 6, 9, 10, 11): version exactly held plus one. Expiry does not matter here"
-pub fn judge_root(s: State, offered: Root, entries: Entries, held: &[u8], own: &[u8]) -> Answer
-    ensures { (o : RootOffer) → o.held_row ≡ held.now → o.own_row ≡ own.now → number_of result ≡ first (root_table (view s) o (view_root offered) (view_entries entries)) }
+pub fn judge_root(s: &State, offered: Root, entries: Entries, held: &[u8], own: &[u8]) -> Answer
+    ensures { (o : RootOffer) → o.held_row ≡ held.now → o.own_row ≡ own.now → number_of result ≡ first (root_table (view s.now) o (view_root offered) (view_entries entries)) }
 {
     refuse_if(keys::bad_row(entries, held), Refusal::BadArgument)?;
     refuse_if(keys::bad_row(entries, own), Refusal::BadArgument)?;
@@ -92,14 +92,14 @@ pub fn judge_root(s: State, offered: Root, entries: Entries, held: &[u8], own: &
 
 // "Snapshot (1 to 9, 11, 13, 14): needs a timestamp, leans on root and timestamp"
 pub fn judge_snapshot(
-    s: State,
-    offered: Snapshot,
+    s: &State,
+    offered: &Snapshot,
     entries: Entries,
     row: &[u8],
     size: u64,
     digest: &[u8],
 ) -> Answer
-    ensures { (o : FileOffer) → Measured o row.now size digest.now → number_of result ≡ first (snapshot_table (view s) o (view_snapshot offered) (view_entries entries)) }
+    ensures { (o : FileOffer) → Measured o row.now size digest.now → number_of result ≡ first (snapshot_table (view s.now) o (view_snapshot offered.now) (view_entries entries)) }
 {
     refuse_if(keys::bad_row(entries, row), Refusal::BadArgument)?;
     refuse_if(s.lacks_root(), Refusal::NotHeld)?;
@@ -110,14 +110,14 @@ pub fn judge_snapshot(
     refuse_if(s.has_other_digest(digest), Refusal::OtherContent)?;
     refuse_if(s.has_few_for_snapshot(entries, row), Refusal::FewHeldKeys)?;
     refuse_if(s.has_other_listed(offered.version), Refusal::WrongVersion)?;
-    refuse_if(s.has_lost(offered.names), Refusal::WentBack)?;
+    refuse_if(s.has_lost(&offered.names), Refusal::WentBack)?;
     refuse_if(s.is_past(offered.expires), Refusal::FileExpired)?;
     Ok(())
 }
 
 // "Targets (1 to 9, 11, 14): needs a current snapshot .. leans on root, timestamp, snapshot"; the version and the date are the file's
 pub fn judge_targets(
-    s: State,
+    s: &State,
     version: u64,
     expires: Time,
     entries: Entries,
@@ -125,7 +125,7 @@ pub fn judge_targets(
     size: u64,
     digest: &[u8],
 ) -> Answer
-    ensures { (o : FileOffer) → Measured o row.now size digest.now → (f : File (List Image)) → Dated f version expires.seconds → number_of result ≡ first (targets_table (view s) o f (view_entries entries)) }
+    ensures { (o : FileOffer) → Measured o row.now size digest.now → (f : File (List Image)) → Dated f version expires.seconds → number_of result ≡ first (targets_table (view s.now) o f (view_entries entries)) }
 {
     refuse_if(keys::bad_row(entries, row), Refusal::BadArgument)?;
     refuse_if(s.lacks_root(), Refusal::NotHeld)?;
@@ -144,8 +144,8 @@ pub fn judge_targets(
 }
 
 // "Find (1 to 8, 15): given the targets file .. and a path .. leans on all four"; `listed` says whether the file lists the path
-pub fn judge_find(s: State, digest: &[u8], path: &[u8], listed: bool) -> Answer
-    ensures { (q : Query) → Queried q digest.now path.now → (g : File (List Image)) → Lists g q.path listed → (es : List Bytes) → number_of result ≡ first (find_table (view s) q g es) }
+pub fn judge_find(s: &State, digest: &[u8], path: &[u8], listed: bool) -> Answer
+    ensures { (q : Query) → Queried q digest.now path.now → (g : File (List Image)) → Lists g q.path listed → (es : List Bytes) → number_of result ≡ first (find_table (view s.now) q g es) }
 {
     refuse_if(s.lacks_root(), Refusal::NotHeld)?;
     refuse_if(s.lacks_timestamp(), Refusal::NotHeld)?;

@@ -17,8 +17,8 @@ fn same_name(a: &Name, b: &Name) -> bool
 
 // ---- Refusal 13: not "Every name in the held snapshot is still listed, with a version not lower"
 
-pub fn lost(held: Names, new: Names) -> bool
-    ensures { result ≡ lost_of (view_names held) (view_names new) }
+pub fn lost(held: &Names, new: &Names) -> bool
+    ensures { result ≡ lost_of (view_names held.now) (view_names new.now) }
 {
     let mut lost = false;
     'held: for old in held.listed() {

@@ -279,7 +279,9 @@ pub fn read_root(file: &[u8]) -> Result<Signed<Root>, Fault>
 {
     let opened = envelope::open_envelope(file)?;
     let start = opened.start;
-    let body = root_at(file, start).ok_or(Fault::BadForm)?;
+    let Some(body) = root_at(file, start) else {
+        return Err(Fault::BadForm);
+    };
     let header = envelope::header_at(file, start, b"root", body.extent).ok_or(Fault::BadForm)?;
     if !keyids_field(file, lookup::find_member(file, start, b"keys")) {
         return Err(Fault::OtherKeyid);

@@ -174,51 +174,71 @@ impl State {
     }
 
     // "Only an accepted install or a new cycle sets the start time"; A8: an accepted cycle
-    pub fn with_start(mut self, t: Time) -> State
+    pub fn with_start(self, t: Time) -> State
         ensures { view result ≡ with_start (view self) t.seconds }
     {
-        self.start = t;
-        self
+        State { start: t, ..self }
     }
 
     // The state with a next root, which drops the records whose keys it rotates.
-    pub fn with_root(mut self, new: Root) -> State
-        ensures { view result ≡ with_root (view self) (view_root self.root) (view_root new) }
+    pub fn with_root(&self, new: &Root) -> State
+        ensures { view result ≡ with_root (view self.now) (view_root self.now.root) (view_root new.now) }
     {
-        let both = rotates_both(&self.root, &new);
-        let alone = rotates_targets(&self.root, &new);
-        self.held = Held {
+        let both = rotates_both(&self.root, new);
+        let alone = rotates_targets(&self.root, new);
+        let held = Held {
             root: true,
             timestamp: self.held.timestamp && !both,
             snapshot: self.held.snapshot && !both,
             targets: self.held.targets && !alone,
         };
-        self.root = new;
-        self
+        State {
+            held,
+            root: *new,
+            ..*self
+        }
     }
 
-    pub fn with_timestamp(mut self, new: Timestamp) -> State
+    pub fn with_timestamp(self, new: Timestamp) -> State
         ensures { view result ≡ with_timestamp (view self) (view_timestamp new) }
     {
-        self.held.timestamp = true;
-        self.timestamp = new;
-        self
+        let held = Held {
+            timestamp: true,
+            ..self.held
+        };
+        State {
+            held,
+            timestamp: new,
+            ..self
+        }
     }
 
-    pub fn with_snapshot(mut self, new: Snapshot) -> State
-        ensures { view result ≡ with_snapshot (view self) (view_snapshot new) }
+    pub fn with_snapshot(&self, new: &Snapshot) -> State
+        ensures { view result ≡ with_snapshot (view self.now) (view_snapshot new.now) }
     {
-        self.held.snapshot = true;
-        self.snapshot = new;
-        self
+        let held = Held {
+            snapshot: true,
+            ..self.held
+        };
+        State {
+            held,
+            snapshot: *new,
+            ..*self
+        }
     }
 
-    pub fn with_targets(mut self, new: Targets) -> State
+    pub fn with_targets(self, new: Targets) -> State
         ensures { view result ≡ with_targets (view self) (view_targets new) }
     {
-        self.held.targets = true;
-        self.targets = new;
-        self
+        let held = Held {
+            targets: true,
+            ..self.held
+        };
+        State {
+            held,
+            targets: new,
+            ..self
+        }
     }
 
     // ---- Refusal 6: "a record the step needs is not held"
@@ -400,10 +420,10 @@ impl State {
         self.held.snapshot && version != self.entry().version
     }
 
-    pub fn has_lost(self, new: Names) -> bool
-        ensures { result ≡ of_held (view self).snapshot (λ h. lost h.names (view_names new)) }
+    pub fn has_lost(&self, new: &Names) -> bool
+        ensures { result ≡ of_held (view self.now).snapshot (λ h. lost h.names (view_names new.now)) }
     {
-        self.held.snapshot && names::lost(self.snapshot.names, new)
+        self.held.snapshot && names::lost(&self.snapshot.names, new)
     }
 
     // ---- Refusal 17: a start time earlier than the latest one, which is the one in force

@@ -69,42 +69,42 @@ impl State {
     pub fn install(file: &[u8], row: &[u8], start: Time) -> Step
         ensures { Began (record { file = file.entry.now; row = row.now; start = start.seconds }) (number_of result.answer) (view result.state) }
     {
-        State::blank().stepped(installed(file, row, start))
+        State::blank().stepped(&installed(file, row, start))
     }
 
     // New cycle (A8: 17): refused with a start time earlier than the latest one that the state has had
     pub fn new_cycle(self, start: Time) -> Step
         ensures { Steps self (new_cycle start.seconds) (number_of result.answer) result.state }
     {
-        self.stepped(self.after_cycle(start))
+        self.stepped(&self.after_cycle(start))
     }
 
     // "Root (1 to 6, 9, 10, 11)", and 16: the row of verdicts under the held root's keys, and the one under its own
     pub fn root(self, file: &[u8], held: &[u8], own: &[u8]) -> Step
         ensures { Steps self (new_root (record { file = file.entry.now; held_row = held.now; own_row = own.now })) (number_of result.answer) result.state }
     {
-        self.stepped(self.after_root(file, held, own))
+        self.stepped(&self.after_root(file, held, own))
     }
 
     // "Timestamp (1 to 7, 9, 11 to 14)"
     pub fn timestamp(self, file: &[u8], row: &[u8]) -> Step
         ensures { Steps self (new_timestamp (record { file = file.entry.now; row = row.now })) (number_of result.answer) result.state }
     {
-        self.stepped(self.after_timestamp(file, row))
+        self.stepped(&self.after_timestamp(file, row))
     }
 
     // "Snapshot (1 to 9, 11, 13, 14)"
     pub fn snapshot(self, file: &[u8], row: &[u8]) -> Step
         ensures { Steps self (new_snapshot (record { file = file.entry.now; row = row.now })) (number_of result.answer) result.state }
     {
-        self.stepped(self.after_snapshot(file, row))
+        self.stepped(&self.after_snapshot(file, row))
     }
 
     // "Targets (1 to 9, 11, 14)": "The file's digest is kept". No path is asked for.
     pub fn targets(self, file: &[u8], row: &[u8]) -> Step
         ensures { Steps self (new_targets (record { file = file.entry.now; row = row.now })) (number_of result.answer) result.state }
     {
-        self.stepped(self.after_targets(file, row))
+        self.stepped(&self.after_targets(file, row))
     }
 
     // "Find (1 to 8, 15)": "Success gives length and sha256; a refusal gives zeros". A2: the number of names compared is given with 15 too.
@@ -117,7 +117,7 @@ impl State {
         };
         let search = read.signed.search;
         let digest = sha256::digest(file);
-        match judge::judge_find(self.trusted, &digest, path, search.found.is_some()) {
+        match judge::judge_find(&self.trusted, &digest, path, search.found.is_some()) {
             Ok(()) => {
                 let found = search.found.unwrap();
                 Image {
@@ -148,41 +148,48 @@ impl State {
 
     // ---- What decides each of them: the refusal, or the trusted state after it
 
-    fn after_cycle(self, start: Time) -> Result<state::State, Refusal>
-        ensures { Decides self (new_cycle start.seconds) result }
+    fn after_cycle(&self, start: Time) -> Result<state::State, Refusal>
+        ensures { Decides self.now (new_cycle start.seconds) result }
     {
-        judge::judge_cycle(self.trusted, start)?;
+        judge::judge_cycle(&self.trusted, start)?;
         Ok(self.trusted.with_start(start))
     }
 
-    fn after_root(self, file: &[u8], held: &[u8], own: &[u8]) -> Result<state::State, Refusal>
-        ensures { Decides self (new_root (record { file = file.entry.now; held_row = held.now; own_row = own.now })) result }
+    fn after_root(&self, file: &[u8], held: &[u8], own: &[u8]) -> Result<state::State, Refusal>
+        ensures { Decides self.now (new_root (record { file = file.entry.now; held_row = held.now; own_row = own.now })) result }
     {
         let read = root_file::read_root(file)?;
-        judge::judge_root(self.trusted, read.signed, read.entries, held, own)?;
-        Ok(self.trusted.with_root(read.signed))
+        judge::judge_root(&self.trusted, read.signed, read.entries, held, own)?;
+        Ok(self.trusted.with_root(&read.signed))
     }
 
-    fn after_timestamp(self, file: &[u8], row: &[u8]) -> Result<state::State, Refusal>
-        ensures { Decides self (new_timestamp (record { file = file.entry.now; row = row.now })) result }
+    fn after_timestamp(&self, file: &[u8], row: &[u8]) -> Result<state::State, Refusal>
+        ensures { Decides self.now (new_timestamp (record { file = file.entry.now; row = row.now })) result }
     {
         let read = timestamp_file::read_timestamp(file)?;
-        judge::judge_timestamp(self.trusted, read.signed, read.entries, row)?;
+        judge::judge_timestamp(&self.trusted, read.signed, read.entries, row)?;
         Ok(self.trusted.with_timestamp(read.signed))
     }
 
-    fn after_snapshot(self, file: &[u8], row: &[u8]) -> Result<state::State, Refusal>
-        ensures { Decides self (new_snapshot (record { file = file.entry.now; row = row.now })) result }
+    fn after_snapshot(&self, file: &[u8], row: &[u8]) -> Result<state::State, Refusal>
+        ensures { Decides self.now (new_snapshot (record { file = file.entry.now; row = row.now })) result }
     {
         let read = snapshot_file::read_snapshot(file)?;
         let size = wide(file.len());
         let digest = sha256::digest(file);
-        judge::judge_snapshot(self.trusted, read.signed, read.entries, row, size, &digest)?;
-        Ok(self.trusted.with_snapshot(read.signed))
+        judge::judge_snapshot(
+            &self.trusted,
+            &read.signed,
+            read.entries,
+            row,
+            size,
+            &digest,
+        )?;
+        Ok(self.trusted.with_snapshot(&read.signed))
     }
 
-    fn after_targets(self, file: &[u8], row: &[u8]) -> Result<state::State, Refusal>
-        ensures { Decides self (new_targets (record { file = file.entry.now; row = row.now })) result }
+    fn after_targets(&self, file: &[u8], row: &[u8]) -> Result<state::State, Refusal>
+        ensures { Decides self.now (new_targets (record { file = file.entry.now; row = row.now })) result }
     {
         let read = targets_file::read_targets(file, b"")?;
         let version = read.signed.version;
@@ -190,7 +197,7 @@ impl State {
         let size = wide(file.len());
         let bytes = sha256::digest(file);
         judge::judge_targets(
-            self.trusted,
+            &self.trusted,
             version,
             expires,
             read.entries,
@@ -219,18 +226,18 @@ impl State {
             .ok_or(Refusal::NotListed)
     }
 
-    // "A refusal returns the state it was given"
-    fn stepped(self, decided: Result<state::State, Refusal>) -> Step
-        ensures { Hands self decided result }
+    // "A refusal returns the state it was given". By reference: each copy of a state takes 4,608 bytes of the stack.
+    fn stepped(&self, decided: &Result<state::State, Refusal>) -> Step
+        ensures { Hands self.now decided.now result }
     {
         match decided {
             Ok(trusted) => Step {
                 answer: Ok(()),
-                state: State { trusted },
+                state: State { trusted: *trusted },
             },
             Err(refusal) => Step {
-                answer: Err(refusal),
-                state: self,
+                answer: Err(*refusal),
+                state: *self,
             },
         }
     }

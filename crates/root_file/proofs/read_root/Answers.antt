@@ -20,16 +20,15 @@ returns-in_err-opened c =
     let r : c.from_residual.result ≡ Err c.in_err-opened.field-0.0 = search rules in
     rw r (role-refused (bytes "root") root_kept root_keyids keep_file view_root _ _ c.in_err-opened.ensures) ∙ sym (root_by-body _)
 
-pub returns-in_err-body : goal.returns-in_err-body
-returns-in_err-body c =
-    let r : c.from_residual-in_err-body.result ≡ Err BadForm = search rules in
+pub returns-in_default : goal.returns-in_default
+returns-in_default c =
     let b : c.root_at.result ≡ None = search rules in
-    rw r (role-broken (bytes "root") root_kept root_keyids keep_file view_root _ _ c.in_ok-opened.ensures (rw b at c.root_at.ensures.means)) ∙ sym (root_by-body _)
+    role-broken (bytes "root") root_kept root_keyids keep_file view_root _ _ c.in_ok-opened.ensures (rw b at c.root_at.ensures.means) ∙ sym (root_by-body _)
 
 pub returns-in_err-header : goal.returns-in_err-header
 returns-in_err-header c =
     let r : c.from_residual-in_err-header.result ≡ Err BadForm = search rules in
-    let b : c.root_at.result ≡ Some c.in_ok-body.body = search rules in
+    let b : c.root_at.result ≡ Some c.in-Some.body = search rules in
     let n : c.header_at.result ≡ None = search rules in
     let t = c.header_at.ensures (rw b at c.root_at.ensures.end) in
     rw r (role_headless (bytes "root") root_kept root_keyids keep_file view_root _ _ c.in_ok-opened.ensures (rw n at t)) ∙ sym (root_by-body _)
@@ -37,7 +36,7 @@ returns-in_err-header c =
 pub returns-then-not-keyids_field : goal.returns-then-not-keyids_field
 unfolding root_keyids
 returns-then-not-keyids_field c =
-    let b : c.root_at.result ≡ Some c.in_ok-body.body = search rules in
+    let b : c.root_at.result ≡ Some c.in-Some.body = search rules in
     let n : c.header_at.result ≡ Some c.in_ok-header.header = search rules in
     let t = c.header_at.ensures (rw b at c.root_at.ensures.end) in
     role-keyids (bytes "root") root_kept root_keyids keep_file view_root _ _ c.in_ok-opened.ensures _ (rw b at c.root_at.ensures.means) _ (rw n at t)
@@ -47,7 +46,7 @@ returns-then-not-keyids_field c =
 pub returns-then-not-header : goal.returns-then-not-header
 unfolding root_keyids view_header
 returns-then-not-header c =
-    let b : c.root_at.result ≡ Some c.in_ok-body.body = search rules in
+    let b : c.root_at.result ≡ Some c.in-Some.body = search rules in
     let n : c.header_at.result ≡ Some c.in_ok-header.header = search rules in
     let t = c.header_at.ensures (rw b at c.root_at.ensures.end) in
     role-other (bytes "root") root_kept root_keyids keep_file view_root _ _ c.in_ok-opened.ensures _ (rw b at c.root_at.ensures.means) _ (rw n at t)
@@ -57,7 +56,7 @@ returns-then-not-header c =
 pub returns : goal.returns
 unfolding root_keyids view_root view_body view_roles view_header keep_file
 returns c =
-    let b : c.root_at.result ≡ Some c.in_ok-body.body = search rules in
+    let b : c.root_at.result ≡ Some c.in-Some.body = search rules in
     let n : c.header_at.result ≡ Some c.in_ok-header.header = search rules in
     let t = c.header_at.ensures (rw b at c.root_at.ensures.end) in
     role-says (bytes "root") root_kept root_keyids keep_file view_root _ _ c.in_ok-opened.ensures _ (rw b at c.root_at.ensures.means) _ (rw n at t)
