@@ -83,7 +83,7 @@ pub enum Argument {
 #[derive(Clone, Copy)]
 pub struct Arguments<'b> {
     bytes: &'b [u8],
-    all: [Argument; ARGUMENTS],
+    pub all: [Argument; ARGUMENTS],
 }
 
 // ---- Bytes: how many there are now in the first places of a buffer

@@ -1,5 +1,5 @@
 -- The reading of a number at places of the text.
-use mathlib.Core.Path.{◌≡◌, refl}
+use mathlib.Core.Path.{◌≡◌, refl, ap}
 use mathlib.Core.List.{[], ◌∷◌}
 use mathlib.Core.Bool.{Bool, true, false}
 use Prim.Native.Nat.{ℕ, ◌≤◌, ◌<◌, ◌+◌, ◌-◌}
@@ -38,6 +38,19 @@ module _ (s : Bytes) (i : ℕ) where
   unfolding number
   begun neg h e f = rw (at-cons s i h, ne_eqb (get_or s i 0) 48 e) (simp f (ends-also (length s) (λ (x : Bytes). get_or s i 0 ∷ x) (digits (drop (i + 1) s))))
 
+  -- where the digits end, and a digit before that
+  pub spent : length s ≤ i → end_of (length s) (digits (drop i s)) ≡ Some (length s)
+  unfolding digits
+  spent h = rw (at-end s i h) (ap Some (omega arith))
+
+  pub stop : i < length s → is_digit (get_or s i 0) ≡ false → end_of (length s) (digits (drop i s)) ≡ Some i
+  unfolding digits
+  stop h f = rw (at-cons s i h) (simp f (ap Some (omega (arith, length-drop (i + 1) s))))
+
+  pub onward : i < length s → is_digit (get_or s i 0) ≡ true → end_of (length s) (digits (drop i s)) ≡ end_of (length s) (digits (drop (i + 1) s))
+  unfolding digits
+  onward h f = rw (at-cons s i h) (simp f (ends-also (length s) (λ (x : Bytes). get_or s i 0 ∷ x) (digits (drop (i + 1) s))))
+
 -- the digits in front are those that a reader takes
 digits-run : (t : Bytes) → digits t ≡ got (take (prefix_len is_digit t) t) (drop (prefix_len is_digit t) t)
 unfolding digits
@@ -62,4 +75,4 @@ within s i h = rw take_rest (omega (arith, prefix_len-le-length is_digit (drop i
 
 pub ruleset number_rules = (over, minus-zero, is_zero, none, begun)
 
-pub ruleset digits_rules = (run, within)
+pub ruleset digits_rules = (spent, stop, onward)

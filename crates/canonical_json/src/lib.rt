@@ -2,7 +2,6 @@
 #![tactic(auto)]
 
 ghost use Rattle.std.specs.Prelude.{◌≡◌, true, ◌↔◌, ◌+◌, ◌≤◌, ◌<◌, length, drop, get_or};
-ghost use Rattle.std.specs.List.{prefix_len};
 ghost use Rattle.base.specs.Bytes.{less, is_digit};
 ghost use Rattle.canonical_json.specs.Lead.{seq, lead_of};
 ghost use Rattle.canonical_json.specs.Read.{end_of, chars, esc, read_str, kind_of, word as word_of, number as number_of, digits as digits_of, array as array_of, object as object_of, member as member_of, rises, read, raw};
@@ -183,20 +182,17 @@ fn kind_of(b: u8) -> Kind
     }
 }
 
-// How many digits stand in front.
-fn digit_count(s: &[u8]) -> usize
-    ensures { result ≡ prefix_len is_digit s.now }
-{
-    s.iter().take_while(|b| b.is_ascii_digit()).count()
-}
-
 // Past the digits at `at`; the end of the text where none is left there.
 #[tactic(auto, using(crate::proofs::Numbers::digits_rules))]
 pub fn digits_end(s: &[u8], at: usize) -> usize
     ensures { end_of (length s.now) (digits_of (drop at s.now)) ≡ Some result }
 {
-    let from = at.min(s.len());
-    from + digit_count(&s[from..])
+    for i in at..s.len() {
+        if !s[i].is_ascii_digit() {
+            return i;
+        }
+    }
+    s.len()
 }
 
 // The digits of a number, after its minus where there is one.

@@ -15,7 +15,7 @@ use Rattle.date.specs.Parts.{DigitsAt}
 
 -- ## A byte
 
-fits-digit : (f b : ℕ) → f ≡ 48 → fits f b ≡ is_digit b
+pub fits-digit : (f b : ℕ) → f ≡ 48 → fits f b ≡ is_digit b
 unfolding fits
 fits-digit f b e = rw (eq-eqb f 48 e)
 

@@ -5,13 +5,13 @@ use date::Time;
 use inspect::{EntryRead, Looked};
 use itoa::Integer;
 use records::Id;
-use script::Line;
+use script::{Line, ROOM};
 use state::{Version, Versions};
 use std::io;
 use tuf::{Image, PublicKey, Step};
 
 // Ends a line and writes it.
-fn put(rt: &impl Print, mut line: Line) -> io::Result<()> {
+fn put(rt: &impl Print, mut line: Line<ROOM>) -> io::Result<()> {
     line.push(b"\n");
     rt.write_all(line.text())
 }
@@ -23,30 +23,30 @@ pub fn problem(rt: &impl Print, number: u64, problem: Problem) -> io::Result<()>
 // ---- Pieces
 
 // A line that begins with this name.
-fn named(name: &[u8]) -> Line {
+fn named(name: &[u8]) -> Line<ROOM> {
     let mut line = Line::new();
     line.push(name);
     line
 }
 
 // A line that begins with the name of a call and its number.
-fn answered(name: &[u8], answer: Answer) -> Line {
+fn answered(name: &[u8], answer: Answer) -> Line<ROOM> {
     let mut line = named(name);
     push_number(&mut line, answers::number(answer));
     line
 }
 
-fn push_number<N: Integer>(line: &mut Line, n: N) {
+fn push_number<N: Integer>(line: &mut Line<ROOM>, n: N) {
     line.push(b" ");
     line.push_number(n);
 }
 
-fn push_bytes(line: &mut Line, bytes: &[u8]) {
+fn push_bytes(line: &mut Line<ROOM>, bytes: &[u8]) {
     line.push(b" ");
     line.push_hex(bytes);
 }
 
-fn push_version(line: &mut Line, role: &[u8], version: Version) {
+fn push_version(line: &mut Line<ROOM>, role: &[u8], version: Version) {
     line.push(b" ");
     line.push(role);
     line.push(b"=");
@@ -57,7 +57,7 @@ fn push_version(line: &mut Line, role: &[u8], version: Version) {
     }
 }
 
-fn push_state(line: &mut Line, v: Versions) {
+fn push_state(line: &mut Line<ROOM>, v: Versions) {
     push_version(line, b"root", v.root);
     push_version(line, b"timestamp", v.timestamp);
     push_version(line, b"snapshot", v.snapshot);

@@ -75,11 +75,11 @@ module _ {s : Bytes} {all : Bool} where
 -- ## The table of a member
 
 module _ (s : Bytes) (p : ℕ) (k : Bytes) (found : Option ℕ) (w : Finds s p (field k) found) where
-  table_none : found ≡ None → Tests s p (λ v. own_table (must k members v)) true
+  pub table_none : found ≡ None → Tests s p (λ v. own_table (must k members v)) true
   unfolding must own_table bind
   table_none q v h = let z : field k v ≡ None = rw q at (w v h) in rw z
 
-  table_at : (x : ℕ) (r : Bool) → found ≡ Some x → Tests s x (λ v. own_table (members v)) r → Tests s p (λ v. own_table (must k members v)) r
+  pub table_at : (x : ℕ) (r : Bool) → found ≡ Some x → Tests s x (λ v. own_table (members v)) r → Tests s p (λ v. own_table (must k members v)) r
   unfolding must bind
   table_at x r q t v h =
       let z : (u : Json) × (field k v ≡ Some u) × Stands s x u = rw q at (w v h) in

@@ -5,56 +5,56 @@ ghost use Rattle.base.specs.Hex.{hex_of, hex_digit};
 use itoa::{Buffer, Integer};
 use std::marker::Model;
 
-// The bytes that a line has room for.
+// The bytes that a line of an answer has room for; none is as long.
 pub const ROOM: usize = 512;
 
-// The first `len` bytes of the buffer.
+// The first `len` bytes of a buffer of N.
 #[derive(Drop)]
-pub struct Line {
-    bytes: [u8; ROOM],
+pub struct Line<const N: usize> {
+    bytes: [u8; N],
     len: usize,
 }
 
-impl Model for Line {
+impl<const N: usize> Model for Line<N> {
     ghost use Rattle.std.specs.Prelude.{List, ℕ, ◌≤◌, take};
-    ghost use Rattle.script.specs.declared.line.TheConstants.{ROOM};
 
     ghost Value = { List ℕ };
 
     ghost view = { λ l. take l.len l.bytes };
 
-    ghost invariant = { λ l. l.len ≤ ROOM };
+    ghost invariant = { λ l. l.len ≤ N };
 }
 
-impl Line {
-    pub fn new() -> Line
+impl<const N: usize> Line<N> {
+    pub fn new() -> Self
         ensures { result ≡ [] }
     {
         Line {
-            bytes: [0; ROOM],
+            bytes: [0; N],
             len: 0,
         }
     }
 
     pub fn text(&self) -> &[u8]
         ensures value { result.now ≡ self.now }
-        ensures within { length result.now ≤ ROOM }
+        ensures within { length result.now ≤ N }
     {
         &self.bytes[..self.len]
     }
 
     pub fn push(&mut self, text: &[u8])
-        ensures { self.new ≡ take ROOM (self.old ++ text.now) }
+        ensures { self.new ≡ take N (self.old ++ text.now) }
     {
-        let n = text.len().min(ROOM - self.len);
+        let n = text.len().min(N - self.len);
         let end = self.len + n;
-        self.bytes[self.len..end].copy_from_slice(&text[..n]);
+        let room = &mut self.bytes[..];
+        room[self.len..end].copy_from_slice(&text[..n]);
         self.len = end;
     }
 
     // The number as `{}` prints it.
-    pub fn push_number<N: Integer>(&mut self, n: N)
-        ensures { self.new ≡ take ROOM (self.old ++ N.text n) }
+    pub fn push_number<I: Integer>(&mut self, n: I)
+        ensures { self.new ≡ take N (self.old ++ I.text n) }
     {
         let mut buffer = Buffer::new();
         self.push(buffer.format(n).as_bytes());
@@ -62,7 +62,7 @@ impl Line {
 
     // Two digits for each byte.
     pub fn push_hex(&mut self, bytes: &[u8])
-        ensures { self.new ≡ take ROOM (self.old ++ hex_of bytes.now) }
+        ensures { self.new ≡ take N (self.old ++ hex_of bytes.now) }
     {
         // No effect at run time: the proof reads here that what there is has room.
         let _ = &self.bytes;

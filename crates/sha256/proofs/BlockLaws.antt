@@ -70,7 +70,7 @@ chunk-at l (suc n) zero h = refl
 chunk-at l (suc n) (suc b) h = let e : 64 + b * 64 ≡ suc b * 64 = omega arith in chunk-at (drop 64 l) n b (omega arith) ∙ rw (drop-drop (b * 64) 64 l, e)
 
 -- and the words of that block
-chunk-words : (l : Bytes) (n b : ℕ) → b < n → words_at (get_or (first_chunks 64 n l) b []) 0 16 ≡ words_at l (b * 64) 16
+pub chunk-words : (l : Bytes) (n b : ℕ) → b < n → words_at (get_or (first_chunks 64 n l) b []) 0 16 ≡ words_at l (b * 64) 16
 chunk-words l n b h =
     let e : b * 64 + 0 ≡ b * 64 = omega arith in
     rw (chunk-at l n b h, words_at-take (drop (b * 64) l) 0 64 16 (omega arith), words_at-drop l (b * 64) 0 16, e)
@@ -79,10 +79,9 @@ chunk-words l n b h =
 
 module _ (v : Hash) (l : Bytes) where
   -- one turn of the loop over the blocks
-  pub hashed-next : (n b : ℕ) (m : List ℕ) (h r : Hash) → b < n → h ≡ hashed v l b → take 16 m ≡ words_at (get_or (first_chunks 64 n l) b []) 0 16
-      → r ≡ compress h (take 16 m) → r ≡ hashed v l (b + 1)
+  pub hashed-next : (b : ℕ) (m : List ℕ) (h r : Hash) → h ≡ hashed v l b → take 16 m ≡ words_at l (b * 64) 16 → r ≡ compress h (take 16 m) → r ≡ hashed v l (b + 1)
   unfolding hashed
-  hashed-next n b m h r k e f g = let a : b + 1 ≡ suc b = omega arith in rw (a, g, e, f, chunk-words l n b k)
+  hashed-next b m h r e f g = let a : b + 1 ≡ suc b = omega arith in rw (a, g, e, f)
 
   -- the first blocks, whatever follows them
   pub hashed-append : (r : Bytes) (n : ℕ) → n * 64 ≤ length l → hashed v (l ++ r) n ≡ hashed v l n

@@ -86,7 +86,7 @@ module _ (s : Bytes) (i : ℕ) where
   pub block_start : Bare s i (i + 0)
   block_start = bare_to s i i (i + 0) (bare_none s i) (omega arith)
 
-  block_next : (k : ℕ) (plain : Bool) → (plain ≡ true → Bare s i (i + k)) → i + k < length s
+  pub block_next : (k : ℕ) (plain : Bool) → (plain ≡ true → Bare s i (i + k)) → i + k < length s
       → plain && (not (eqb (get_or s (i + k) 0) 34) && not (eqb (get_or s (i + k) 0) 92)) ≡ true → Bare s i (i + (k + 1))
   block_next k plain p h e =
       let b = get_or s (i + k) 0 in

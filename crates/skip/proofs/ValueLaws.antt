@@ -17,7 +17,7 @@ use Rattle.std.specs.declared.option.Option.TheVariants.{None, Some}
 use Rattle.canonical_json.proofs.Puts.{put_null, put-true, put-false, put-num, put-str, put-arr, put-obj}
 use Rattle.canonical_json.proofs.Complete.{complete}
 use Rattle.canonical_json.proofs.Rest.{ends-less, fits-ends, read_fits}
-use Rattle.skip.specs.Skim.{skim, quoted, past_digits, is_opening, StringEnd, BracketEnd, WordEnd}
+use Rattle.skip.specs.Skim.{skim, quoted, past_digits, is_opening, StringEnd, BracketEnd, WordEnd, DigitsEnd}
 use Rattle.skip.specs.Ends.{Ends}
 use Rattle.skip.proofs.DigitLaws.{digit_not, all_digits_lem}
 use Rattle.skip.proofs.SkimLaws.{skim-zero, skim-bracket_end, skim_brace_end, string_passed, items_passed, members_passed}
@@ -92,11 +92,14 @@ module _ (s : Bytes) (p e : ℕ) (h : p < length s) where
   word-ends (inr b) r = ends (rw (at-cons s p h, b) r.means) (omega arith) r.within
 
   pub digits-ends : (get_or s p 0 ≡ 34 → ⊥) → (OneOf 91 123 (get_or s p 0) → ⊥) → (get_or s p 0 ≡ 102 → ⊥) → (OneOf 110 116 (get_or s p 0) → ⊥)
-      → end_of (length s) (digits (drop (p + 1) s)) ≡ Some e → Ends s p (Some e)
+      → DigitsEnd s (p + 1) e → Ends s p (Some e)
   unfolding past_value
-  digits-ends q o f w k =
-      let r = digits-stand s (p + 1) e (omega arith) k in
-      ends (rw (at-cons s p h, ne_eqb _ _ q, none_of 91 123 _ o, ne_eqb _ _ f, none_of 110 116 _ w) r.means) (omega arith) r.within
+  digits-ends q o f w r = ends (rw (at-cons s p h, ne_eqb _ _ q, none_of 91 123 _ o, ne_eqb _ _ f, none_of 110 116 _ w) r.means) (omega arith) r.within
+
+  -- the same, by where the digits end
+  pub digits_read : (get_or s p 0 ≡ 34 → ⊥) → (OneOf 91 123 (get_or s p 0) → ⊥) → (get_or s p 0 ≡ 102 → ⊥) → (OneOf 110 116 (get_or s p 0) → ⊥)
+      → end_of (length s) (digits (drop (p + 1) s)) ≡ Some e → Ends s p (Some e)
+  digits_read q o f w k = digits-ends q o f w (digits-stand s (p + 1) e (omega arith) k)
 
 -- where the text has ended no value stands: its reader would find it there
 pub none-stands : (s : Bytes) (p : ℕ) → length s ≤ p → Ends s p None
@@ -110,4 +113,4 @@ none-stands s p h = record { means = λ v rest t f g. absurd (none v rest t f g)
         omega arith
 
 -- what the check of `value` may use
-pub ruleset value_rules = (bracket_ends, false-ends, word-ends, digits-ends)
+pub ruleset value_rules = (bracket_ends, false-ends, word-ends, digits_read)

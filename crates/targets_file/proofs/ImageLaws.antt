@@ -100,8 +100,8 @@ module _ (s : Bytes) (i p : ℕ) where
       as-named (Some x) = refl
 
   -- no image, where the form is broken
-  pub broken-name : ((v : Json) → None ≡ image (raw (drop i s)) v) → ReadsNamed s i p None
-  broken-name f = record { reads = record { means = λ v h. f v; end = tt }; digits = tt }
+  pub broken-name : Takes s p (image (raw (drop i s))) None → ReadsNamed s i p None
+  broken-name t = record { reads = record { means = t; end = tt }; digits = tt }
 
 pub broken-image : (s : Bytes) (p : ℕ) → Takes s p description None → ReadsImage s p None
 broken-image s p t = record { reads = record { means = t; end = tt }; digits = tt }

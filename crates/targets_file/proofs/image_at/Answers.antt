@@ -12,7 +12,7 @@ returns-then-not-contains c =
     let e = c.text_len-name_length.ensures in
     let n = c.text_len-name_length.result in
     let h : (n < 1) ⊎ (max_path < n) = search rules in
-    broken-name _ _ _ (λ v. path-out _ v (rw e at h))
+    broken-name _ _ _ (λ v g. path-out _ v (rw e at h))
 
 pub returns-in-Some : goal.returns-in-Some
 returns-in-Some c =
